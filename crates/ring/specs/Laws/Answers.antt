@@ -1,0 +1,21 @@
+-- An answer tells its refusal and its value, and these tell the answer.
+-- Assumes nothing.
+use Prim.Native.Nat.{ℕ, zero, suc}
+use mathlib.Core.Path.{_≡_, refl, ap}
+use Rattle.ring.specs.Refusals.{onAccept}
+use Rattle.ring.specs.Answers.{numbers, answered}
+use Rattle.ring.specs.declared.Answer.the-variants.{Refused, Is}
+
+-- the refusal and the value that an answer was made of
+pub numbers-answered : (e v : ℕ) → numbers (answered e v) ≡ (e, onAccept e v 0)
+numbers-answered zero v = refl
+numbers-answered (suc e) v = refl
+
+-- in the arms of a match on an answer
+pub when-is : (e v n : ℕ) → Is n ≡ answered e v → (e ≡ 0) × (n ≡ v)
+when-is zero v n h = (refl, cc)
+when-is (suc e) v n h = let z : _≡_ {A = ℕ} 0 1 = cc in absurd (native.Mathlib.Nat.suc-ne-zero 0 (mathlib.Core.Path.sym z))
+
+pub when-refused : (e v x : ℕ) → Refused x ≡ answered e v → x ≡ e
+when-refused zero v x h = let z : _≡_ {A = ℕ} 0 1 = cc in absurd (native.Mathlib.Nat.suc-ne-zero 0 (mathlib.Core.Path.sym z))
+when-refused (suc e) v x h = cc

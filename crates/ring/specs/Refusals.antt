@@ -1,0 +1,24 @@
+-- Document 01, "Refusals, in checking order".
+-- Assumes nothing.
+use Prim.Native.Nat.{ℕ, zero, suc}
+use mathlib.Core.Bool.{Bool, true, false, _||_}
+use mathlib.Core.List.{List, [], _∷_}
+use lib.Dec.{ltb}
+
+abbrev pub pick : Bool → ℕ → ℕ → ℕ
+pick true a b = a
+pick false a b = b
+
+-- the refusals of a call, each its condition and its number, in checking order: the first that applies, 0 if none does
+abbrev pub firstOf : List (Bool × ℕ) → ℕ
+firstOf [] = 0
+firstOf (c ∷ cs) = pick (c .0) (c .1) (firstOf cs)
+
+-- by the refusal: a where it is 0, else b. Of a lent buffer, a is what an accepted call leaves and b what it held
+abbrev pub onAccept : {A : Type 0} → ℕ → A → A → A
+onAccept zero a b = a
+onAccept (suc e) a b = b
+
+-- below 1 or above 65,536: the condition of 1 for slots and of 3 for a width, a step, a period or a length
+abbrev pub outside : ℕ → Bool
+outside n = ltb n 1 || ltb 65536 n

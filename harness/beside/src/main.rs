@@ -1,0 +1,33 @@
+//! The Rust beside ours.
+//!
+//! `beside compare` runs both on the same calls and ends in 'N passed, M failed'. `beside record` writes the recorded
+//! sample of the Rust's answers. `beside bench` times both in one run.
+
+mod bench;
+mod ours;
+mod random;
+mod ring;
+mod sample;
+mod tally;
+
+use std::process::ExitCode;
+
+fn compare() -> ExitCode {
+    let mut tally = tally::Tally::default();
+    ring::compare(&mut tally);
+    sample::compare(&mut tally);
+    tally.close()
+}
+
+fn main() -> ExitCode {
+    let command = std::env::args().nth(1).unwrap_or_default();
+    match command.as_str() {
+        "compare" => compare(),
+        "record" => sample::record(),
+        "bench" => bench::run(),
+        _ => {
+            eprintln!("beside: compare, record or bench");
+            ExitCode::from(2)
+        }
+    }
+}
