@@ -1,6 +1,6 @@
 -- Document 01, "Bench examples": statements about the definitions, in one list that is proved as a whole.
 -- Assumes nothing.
-use Prim.Native.Nat.{ℕ, _^_}
+use Prim.Native.Nat.{_^_}
 use mathlib.Core.Path.{_≡_}
 use mathlib.Core.List.{[], _∷_}
 use Rattle.ring.specs.Slots.{modulus, mulm}

@@ -1,7 +1,7 @@
 -- The search for the smallest period by the primes of the length: what is left holds every prime by which the period is too large.
 -- Assumes nothing.
 use Prim.Native.Nat.{ℕ, _+_, _*_, _/_, _%_, _≤_, _<_, _∣_}
-use mathlib.Core.Path.{_≡_, refl, sym, ap, _∙_}
+use mathlib.Core.Path.{_≡_, sym, ap, _∙_}
 use mathlib.Core.List.{List}
 use mathlib.Core.Logic.{_⊎_, inl, inr, ⊎-elim}
 use native.Mathlib.Nat.{eq-or-lt-of-le, lt-of-not-le, lt-of-le-of-lt, le-refl, le-trans, le-of-dvd, mul-assoc, mul-one, mul-le-mul, mul-le-mul-right, le-mul-of-pos-right, le-suc, mod-le, mod-mod-of-dvd, mul-div-cancel', div-mul-cancel, dvd-refl, dvd-trans, dvd-mul-left, dvd-mul-right, mod-eq-zero-of-dvd, pos-of-dvd-of-pos, eq-one-of-dvd-one}

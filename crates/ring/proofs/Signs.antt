@@ -1,9 +1,9 @@
 -- What the code of `magnitude` and `residue` computes of an i64, by its sign.
 -- Assumes nothing.
-use mathlib.Core.Path.{_≡_, refl, sym, ap, _∙_, subst, subst⁻¹}
+use mathlib.Core.Path.{_≡_, refl, ap, _∙_}
 use mathlib.Core.Bool.{Bool, true, false}
-use Prim.Native.Nat.{ℕ, zero, suc, _-_, _%_, _^_, _<_}
-use native.Mathlib.Nat.{not-suc-le-zero, lt-trans, mod-lt}
+use Prim.Native.Nat.{ℕ, zero, suc, _-_, _%_}
+use native.Mathlib.Nat.{not-suc-le-zero, lt-trans}
 use native.Mathlib.Omega.{arith}
 use lib.IntN.{ℤ, pos, negsuc, _-ℤ_, natAbs}
 use lib.Signed.{mag, ltZ, nonNeg}

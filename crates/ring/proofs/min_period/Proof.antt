@@ -4,19 +4,13 @@ use borrow.Author.Needs.{needs}
 use native.Mathlib.Omega.{arith}
 use Prim.Native.Nat.{_-_, _≤_}
 use native.Mathlib.Nat.{mul-le-mul, dvd-of-mod-eq-zero}
-use mathlib.Core.Path.{_≡_, sym, _∙_}
+use mathlib.Core.Path.{sym, _∙_}
 use mathlib.Core.Logic.{⊎-elim}
 use lib.ListN.{length}
-use Rattle.ring.specs.Periods.{minPeriod}
 use Rattle.ring.specs.Laws.Refusals.{not-outside}
 use Rattle.ring.proofs.Factors.{Left, left-start, in-reach, left-factor, left-none, left-done, left-last}
 use Rattle.ring.proofs.min_period.Statement.{statement}
 use Rattle.ring.proofs.min_period.Tie as tie
-use Rattle.ring.proofs.min_period.Reads as reads
-use Rattle.ring.proofs.min_period.Lts as lts
-use Rattle.ring.proofs.is_outside.Reads as is-outside-reads
-use Rattle.ring.proofs.reduced.Reads as reduced-reads
-use Rattle.ring.proofs.stripped.Reads as stripped-reads
 
 abbrev Inv-loop : tie.InvT-loop
 Inv-loop v n period₀ rest₀ f₀ period rest f = Left v period rest f
@@ -24,11 +18,9 @@ Inv-loop v n period₀ rest₀ f₀ period rest f = Left v period rest f
 abbrev μ-loop : tie.MeasureT-loop
 μ-loop v n period₀ rest₀ f₀ period rest f = 65537 - f
 
--- src/lib.rt:165:8
 is-outside-requires : tie.Need-is-outside-requires Inv-loop μ-loop
 is-outside-requires c κs = search needs
 
--- src/lib.rt:166:9
 returns : tie.Need-returns Inv-loop μ-loop
 returns c = rw (sym (c .before .is-outside .ensures .answer) ∙ c .if1 .taken)
 
@@ -36,39 +28,31 @@ returns c = rw (sym (c .before .is-outside .ensures .answer) ∙ c .if1 .taken)
 in-range : (c : tie.Else1 Inv-loop μ-loop) → (1 ≤ length (c .before .before .before .args .v .now)) × (length (c .before .before .before .args .v .now) ≤ 65536)
 in-range c = c .before .is-outside .ensures .inside (c .if1 .left)
 
--- src/lib.rt:171:5
 loop-holds : tie.Need-loop-holds Inv-loop μ-loop
 loop-holds c = left-start _ (in-range c .0) (in-range c .1)
 
--- src/lib.rt:171:11
 mul-loop : tie.Need-mul-loop Inv-loop μ-loop
 mul-loop c = omega (arith, mul-le-mul (c .loop .inv .low) (c .loop .inv .low))
 
--- src/lib.rt:172:12
 rem-if2 : tie.Need-rem-if2 Inv-loop μ-loop
 rem-if2 c = search needs
 
--- src/lib.rt:173:13
 reduced-requires : tie.Need-reduced-requires Inv-loop μ-loop
 reduced-requires c κs =
     let i = c .before .before .loop .inv in
     (omega (arith, i .factor), i .still)
 
--- src/lib.rt:174:13
 stripped-requires : tie.Need-stripped-requires Inv-loop μ-loop
 stripped-requires c κs =
     let i = c .before .before .before .loop .inv in
     record { positive = i .positive; factor = i .factor }
 
--- src/lib.rt:176:9
 add-f : tie.Need-add-f Inv-loop μ-loop
 add-f c = search needs
 
--- src/lib.rt:171:5
 loop-less : tie.Need-loop-less Inv-loop μ-loop
 loop-less c = omega (arith, in-reach (c .before .before .loop .inv) (c .before .loop-test .taken))
 
--- src/lib.rt:171:5
 loop-again : tie.Need-loop-again Inv-loop μ-loop
 loop-again c =
     let a = c .before .before in
@@ -80,18 +64,15 @@ loop-again c =
     (λ w. rw (w .1, w .2) (left-none n i l (w .0 .left)))
     (c .if2 .came)
 
--- src/lib.rt:179:9
 reduced-requires-2 : tie.Need-reduced-requires-2 Inv-loop μ-loop
 reduced-requires-2 c κs = (omega arith, c .before .before .loop .inv .still)
 
--- src/lib.rt:161:1
 returns-2 : tie.Need-returns-2 Inv-loop μ-loop
 returns-2 c =
     let a = c .before .before .before in
     let n = in-range (a .before) in
     rw (not-outside _ (n .0) (n .1), left-last (n .0) (a .loop .inv) (c .before .before .loop-test .left) (c .before .if3 .taken) (c .reduced2 .ensures))
 
--- src/lib.rt:161:1
 returns-3 : tie.Need-returns-3 Inv-loop μ-loop
 returns-3 c =
     let a = c .before .before in

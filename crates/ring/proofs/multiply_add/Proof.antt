@@ -10,10 +10,6 @@ use Rattle.ring.specs.Calls.{productAdded}
 use Rattle.ring.specs.Laws.Vectors.{filling-none, filling-more, filling-rest, filling-done}
 use Rattle.ring.proofs.multiply_add.Statement.{statement}
 use Rattle.ring.proofs.multiply_add.Tie as tie
-use Rattle.ring.proofs.multiply_add.Reads as reads
-use Rattle.ring.proofs.multiply_add.Lts as lts
-use Rattle.ring.proofs.wrapping_mul.Reads as wrapping-mul-reads
-use Rattle.std.proofs.num.wrapping_add_u64.Reads as wrapping-add-u64-reads
 
 abbrev Inv-loop : tie.InvT-loop
 Inv-loop a b out₀ i₀ i-end out i = Filling (productAdded a b out₀) out₀ out i × (i-end ≡ length out₀)
@@ -21,70 +17,54 @@ Inv-loop a b out₀ i₀ i-end out i = Filling (productAdded a b out₀) out₀ 
 abbrev μ-loop : tie.MeasureT-loop
 μ-loop a b out₀ i₀ i-end out i = i-end - i
 
--- src/lib.rt:50:5
 loop-holds : tie.Need-loop-holds Inv-loop μ-loop
 loop-holds c = (filling-none _ _, refl)
 
--- src/lib.rt:51:45
 mul-wrapping-add-u64 : tie.Need-mul-wrapping-add-u64 Inv-loop μ-loop
 mul-wrapping-add-u64 c = search needs
 
--- src/lib.rt:51:45
 slice-read-wrapping-add-u64 : tie.Need-slice-read-wrapping-add-u64 Inv-loop μ-loop
 slice-read-wrapping-add-u64 c = search needs
 
--- src/lib.rt:51:66
 mul-wrapping-mul : tie.Need-mul-wrapping-mul Inv-loop μ-loop
 mul-wrapping-mul c = search needs
 
--- src/lib.rt:51:66
 shared-slice-read-wrapping-mul : tie.Need-shared-slice-read-wrapping-mul Inv-loop μ-loop
 shared-slice-read-wrapping-mul c = search needs
 
--- src/lib.rt:51:72
 mul-wrapping-mul-2 : tie.Need-mul-wrapping-mul-2 Inv-loop μ-loop
 mul-wrapping-mul-2 c = search needs
 
--- src/lib.rt:51:72
 shared-slice-read-wrapping-mul-2 : tie.Need-shared-slice-read-wrapping-mul-2 Inv-loop μ-loop
 shared-slice-read-wrapping-mul-2 c = search needs
 
--- src/lib.rt:51:53
 wrapping-mul-requires : tie.Need-wrapping-mul-requires Inv-loop μ-loop
 wrapping-mul-requires c κs = search needs
 
--- src/lib.rt:51:18
 wrapping-add-u64-requires : tie.Need-wrapping-add-u64-requires Inv-loop μ-loop
 wrapping-add-u64-requires c κs = search needs
 
--- src/lib.rt:51:9
 mul-out : tie.Need-mul-out Inv-loop μ-loop
 mul-out c = search needs
 
--- src/lib.rt:51:9
 slice-write-out : tie.Need-slice-write-out Inv-loop μ-loop
 slice-write-out c = search needs
 
--- src/lib.rt:50:9
 add-i : tie.Need-add-i Inv-loop μ-loop
 add-i c = search needs
 
--- src/lib.rt:50:5
 loop-less : tie.Need-loop-less Inv-loop μ-loop
 loop-less c = search needs
 
--- src/lib.rt:50:5
 loop-again : tie.Need-loop-again Inv-loop μ-loop
 unfolding addm
 loop-again c =
     let l = c .before .before .before .before .before .before in
     (filling-more (l .loop .inv .0) (search needs) (rw (c .wrapping-add-u64 .ensures, c .before .wrapping-mul .ensures, filling-rest (l .loop .inv .0) (l .loop .i) 0 (le-refl _))), l .loop .inv .1)
 
--- src/lib.rt:45:1
 same-length : tie.Need-same-length Inv-loop μ-loop
 same-length c = search needs
 
--- src/lib.rt:45:1
 returns : tie.Need-returns Inv-loop μ-loop
 returns c = filling-done (c .before .loop .inv .0) (search needs)
 

@@ -4,27 +4,19 @@ use borrow.Author.Tests.{eq-eqb, ne-eqb}
 use borrow.Author.Needs.{needs}
 use Rattle.ring.proofs.multiply_add_into.Statement.{statement}
 use Rattle.ring.proofs.multiply_add_into.Tie as tie
-use Rattle.ring.proofs.multiply_add_into.Reads as reads
-use Rattle.ring.proofs.multiply_add_into.Lts as lts
-use Rattle.ring.proofs.multiply_add.Reads as multiply-add-reads
 
--- src/lib.rt:59:9
 returns : tie.Need-returns
 returns c = record { answer = simp (ne-eqb _ _ (c .if1 .taken)); out = refl }
 
--- src/lib.rt:62:9
 returns-2 : tie.Need-returns-2
 returns-2 c = record { answer = simp (eq-eqb _ _ (c .before .if1 .left), ne-eqb _ _ (c .if2 .taken)); out = refl }
 
--- src/lib.rt:64:5
 multiply-add-requires : tie.Need-multiply-add-requires
 multiply-add-requires c κs = search needs
 
--- src/lib.rt:55:1
 same-length : tie.Need-same-length
 same-length c = search needs
 
--- src/lib.rt:55:1
 returns-3 : tie.Need-returns-3
 returns-3 c =
     let t = c .before .before .before .before in

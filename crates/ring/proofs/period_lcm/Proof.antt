@@ -8,10 +8,6 @@ use native.Mathlib.Nat.{div-le-self, mul-le-mul}
 use borrow.Author.Needs.{needs}
 use Rattle.ring.proofs.period_lcm.Statement.{statement}
 use Rattle.ring.proofs.period_lcm.Tie as tie
-use Rattle.ring.proofs.period_lcm.Reads as reads
-use Rattle.ring.proofs.period_lcm.Lts as lts
-use Rattle.ring.proofs.gcd.Reads as gcd-reads
-use Rattle.ring.proofs.is_outside.Reads as is-outside-reads
 
 -- past both tests
 a-inside : (c : tie.Else2) → (1 ≤ c .before .before .before .before .args .a) × (c .before .before .before .before .args .a ≤ 65536)
@@ -20,50 +16,39 @@ a-inside c = c .before .before .before .is-outside .ensures .inside (c .before .
 b-inside : (c : tie.Else2) → (1 ≤ c .before .before .before .before .args .b) × (c .before .before .before .before .args .b ≤ 65536)
 b-inside c = c .before .is-outside2 .ensures .inside (c .if2 .left)
 
--- src/lib.rt:104:8
 is-outside-requires : tie.Need-is-outside-requires
 is-outside-requires c κs = search needs
 
--- src/lib.rt:105:9
 returns : tie.Need-returns
 returns c = rw (sym (c .before .is-outside .ensures .answer) ∙ c .if1 .taken)
 
--- src/lib.rt:107:8
 is-outside-requires-2 : tie.Need-is-outside-requires-2
 is-outside-requires-2 c κs = search needs
 
--- src/lib.rt:108:9
 returns-2 : tie.Need-returns-2
 returns-2 c = rw (sym (c .before .before .before .is-outside .ensures .answer) ∙ c .before .before .if1 .left, sym (c .before .is-outside2 .ensures .answer) ∙ c .if2 .taken)
 
--- src/lib.rt:110:17
 cast-gcd : tie.Need-cast-gcd
 cast-gcd c = omega (arith, a-inside c, b-inside c)
 
--- src/lib.rt:110:27
 cast-gcd-2 : tie.Need-cast-gcd-2
 cast-gcd-2 c = omega (arith, a-inside c, b-inside c)
 
--- src/lib.rt:110:9
 gcd-requires : tie.Need-gcd-requires
 gcd-requires c κs = search needs
 
--- src/lib.rt:111:21
 cast-t8 : tie.Need-cast-t8
 cast-t8 c = search needs
 
--- src/lib.rt:111:16
 div-t9 : tie.Need-div-t9
 div-t9 c = rw (c .gcd .ensures) (gcd-pos _ _ (omega (arith, a-inside (c .before))))
 
--- src/lib.rt:111:16
 mul-t10 : tie.Need-mul-t10
 mul-t10 c =
     let r = c .before .before .before .before .before .args in
     let q : r .a / c .gcd .result ≤ 65536 = omega (arith, a-inside (c .before), div-le-self (r .a) (c .gcd .result)) in
     omega (arith, mul-le-mul q (b-inside (c .before) .1))
 
--- src/lib.rt:101:1
 returns-3 : tie.Need-returns-3
 returns-3 c =
     let d = c .before in

@@ -1,7 +1,8 @@
 -- An answer tells its refusal and its value, and these tell the answer.
 -- Assumes nothing.
 use Prim.Native.Nat.{ℕ, zero, suc}
-use mathlib.Core.Path.{_≡_, refl, ap}
+use native.Mathlib.Omega.{arith}
+use mathlib.Core.Path.{_≡_, refl}
 use Rattle.ring.specs.Refusals.{onAccept}
 use Rattle.ring.specs.Answers.{numbers, answered}
 use Rattle.ring.specs.declared.Answer.the-variants.{Refused, Is}
@@ -14,8 +15,8 @@ numbers-answered (suc e) v = refl
 -- in the arms of a match on an answer
 pub when-is : (e v n : ℕ) → Is n ≡ answered e v → (e ≡ 0) × (n ≡ v)
 when-is zero v n h = (refl, cc)
-when-is (suc e) v n h = let z : _≡_ {A = ℕ} 0 1 = cc in absurd (native.Mathlib.Nat.suc-ne-zero 0 (mathlib.Core.Path.sym z))
+when-is (suc e) v n h = let z : _≡_ {A = ℕ} 0 1 = cc in omega arith
 
 pub when-refused : (e v x : ℕ) → Refused x ≡ answered e v → x ≡ e
-when-refused zero v x h = let z : _≡_ {A = ℕ} 0 1 = cc in absurd (native.Mathlib.Nat.suc-ne-zero 0 (mathlib.Core.Path.sym z))
+when-refused zero v x h = let z : _≡_ {A = ℕ} 0 1 = cc in omega arith
 when-refused (suc e) v x h = cc

@@ -2,7 +2,7 @@
 -- The least common multiple: a / gcd * b is a multiple of both and divides every common multiple.
 -- Assumes nothing.
 use Prim.Native.Nat.{ℕ, zero, suc, _+_, _*_, _/_, _%_, _≤_, _<_, _∣_}
-use mathlib.Core.Path.{_≡_, refl, sym, ap, _∙_}
+use mathlib.Core.Path.{_≡_, sym, ap, _∙_}
 use mathlib.Core.Bool.{true}
 use mathlib.Core.Logic.{⊎-elim}
 use native.Mathlib.Nat.{mod-lt, dvd-refl, dvd-zero, dvd-mod-iff, zero-lt-suc, le-refl, eq-zero-or-pos, le-of-dvd, mod-eq-zero-of-dvd, dvd-of-mod-eq-zero, eq-zero-of-zero-dvd, mod-def, mul-sub, mul-assoc, mul-one, div-mul-cancel, dvd-mul-right, dvd-sub, dvd-mul-left, dvd-mul-right-of-dvd, mul-comm, mul-right-comm, mul-pos, pos-of-dvd-of-pos, mul-div-cancel', mul-dvd-mul, dvd-of-mul-dvd-mul-right}

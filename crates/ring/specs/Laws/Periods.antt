@@ -2,7 +2,7 @@
 -- The smallest period: it is one, it is at most every other, and it divides every other.
 -- Assumes nothing.
 use Prim.Native.Nat.{ℕ, zero, suc, _+_, _-_, _*_, _/_, _%_, _≤_, _<_, _∣_}
-use mathlib.Core.Path.{_≡_, refl, sym, ap, _∙_}
+use mathlib.Core.Path.{_≡_, sym, ap, _∙_}
 use mathlib.Core.Bool.{true, false, true≢false}
 use mathlib.Core.List.{List}
 use native.Mathlib.Nat.{suc-mul, mod-lt, mod-le, mod-eq-of-lt, mod-eq-sub-mod, mod-mod-of-dvd, mod-add-div', add-mod-right, dvd-refl, dvd-trans, le-of-dvd, le-refl, le-antisymm, mul-div-cancel, pos-of-dvd-of-pos, lt-of-not-le, lt-of-le-of-lt}

@@ -1,7 +1,7 @@
 -- Laws of refusals and of what a buffer holds after one.
 -- Assumes nothing.
 use Prim.Native.Nat.{ℕ, zero, suc, _≤_}
-use mathlib.Core.Path.{_≡_, refl, sym, _∙_}
+use mathlib.Core.Path.{_≡_, refl}
 use mathlib.Core.Bool.{Bool, true, false, _||_, true≢false}
 use lib.Dec.{ltb}
 use borrow.Author.Tests.{ltb-false, le-ltb}

@@ -4,10 +4,10 @@
 use mathlib.Core.Path.{_≡_, refl, sym, ap, _∙_}
 use mathlib.Core.Bool.{Bool, true, false, cond}
 use Prim.Native.Nat.{ℕ, zero, suc, _+_, _-_, _*_, _/_, _%_, _<_, _≤_, _∣_}
-use native.Mathlib.Nat.{add-assoc, add-comm, zero-add, zero-mul, mul-comm, zero-mod, add-zero, mod-self, mod-eq-zero-of-dvd, pos-of-dvd-of-pos, mod-lt, zero-lt-suc, not-suc-le-zero, add-mod-mod, mod-add-mod, mod-add-div, mod-eq-of-lt, mod-mod, mod-mod-of-dvd, add-mul-mod-self-left, mul-mod-right, mul-add}
+use native.Mathlib.Nat.{add-comm, zero-add, zero-mul, mul-comm, zero-mod, add-zero, mod-self, mod-eq-zero-of-dvd, pos-of-dvd-of-pos, mod-lt, zero-lt-suc, not-suc-le-zero, add-mod-mod, mod-add-mod, mod-add-div, mod-eq-of-lt, mod-mod, add-mul-mod-self-left, mul-mod-right}
 use native.Mathlib.Omega.{arith}
 use lib.Dec.{ltb}
-use lib.IntN.{ℤ, pos, negsuc, negℤ, subℕ, _+ℤ_, _*ℤ_, +ℤ-assoc, +ℤ-comm, +ℤ-invr, pos-*ℤ-pos, pos-*ℤ-negsuc, negsuc-*ℤ-pos, negsuc-*ℤ-negsuc}
+use lib.IntN.{ℤ, pos, negsuc, negℤ, _+ℤ_, _*ℤ_, +ℤ-assoc, +ℤ-invr}
 use borrow.Author.Tests.{ltb-true, ltb-false, lt-ltb, le-ltb}
 use Rattle.ring.specs.Residues.{residueOf}
 use Rattle.ring.specs.Laws.Slots.{mod-mul-mod, mul-mod-mod}

@@ -3,11 +3,10 @@
 use mathlib.Core.Path.{_≡_, refl, sym, ap, _∙_}
 use mathlib.Core.List.{List}
 use Prim.Native.Nat.{ℕ, _+_, _%_, _<_, _∣_}
-use native.Mathlib.Nat.{add-zero, dvd-refl, mod-eq-of-lt, mod-add-mod, pos-of-dvd-of-pos}
+use native.Mathlib.Nat.{add-zero, dvd-refl, mod-eq-of-lt}
 use native.Mathlib.Omega.{arith}
-use lib.IntN.{ℤ, pos, _+ℤ_, +ℤ-assoc, +ℤ-comm, +ℤ-idr}
+use lib.IntN.{ℤ, pos, _+ℤ_, +ℤ-assoc, +ℤ-comm}
 use lib.ListN.{length, getD}
-use Rattle.ring.specs.Vectors.{tabulate}
 use Rattle.ring.specs.Residues.{residueOf}
 use Rattle.ring.specs.Rotations.{rotated}
 use Rattle.ring.specs.Laws.Vectors.{length-tabulate, getD-tabulate, is-tabulate, tabulate-cong}

@@ -4,22 +4,16 @@ use Rattle.ring.specs.Answers.{numbers}
 use borrow.Author.Needs.{needs}
 use Rattle.sibukyaran.proofs.numbers_of.Statement.{statement}
 use Rattle.sibukyaran.proofs.numbers_of.Tie as tie
-use Rattle.sibukyaran.proofs.numbers_of.Reads as reads
-use Rattle.sibukyaran.proofs.numbers_of.Lts as lts
 
--- src/lib.rt:23:31
 enum-known-a : tie.Need-enum-known-a
 enum-known-a c = search needs
 
--- src/lib.rt:24:26
 enum-known-a-2 : tie.Need-enum-known-a-2
 enum-known-a-2 c = search needs
 
--- src/lib.rt:19:1
 returns : tie.Need-returns
 returns c = sym (ap numbers (c .before .a .given .1))
 
--- src/lib.rt:19:1
 returns-2 : tie.Need-returns-2
 returns-2 c = sym (ap numbers (c .before .a2 .given .1))
 

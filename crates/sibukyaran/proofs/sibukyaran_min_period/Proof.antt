@@ -4,20 +4,13 @@ use Rattle.ring.specs.Answers.{numbers}
 use borrow.Author.Needs.{needs}
 use Rattle.sibukyaran.proofs.sibukyaran_min_period.Statement.{statement}
 use Rattle.sibukyaran.proofs.sibukyaran_min_period.Tie as tie
-use Rattle.sibukyaran.proofs.sibukyaran_min_period.Reads as reads
-use Rattle.sibukyaran.proofs.sibukyaran_min_period.Lts as lts
-use Rattle.ring.proofs.min_period.Reads as min-period-reads
-use Rattle.sibukyaran.proofs.numbers_of.Reads as numbers-of-reads
 
--- src/lib.rt:67:16
 min-period-requires : tie.Need-min-period-requires
 min-period-requires c κs = search needs
 
--- src/lib.rt:67:5
 numbers-of-requires : tie.Need-numbers-of-requires
 numbers-of-requires c κs = search needs
 
--- src/lib.rt:63:1
 returns : tie.Need-returns
 returns c = c .numbers-of .ensures ∙ ap numbers (c .before .min-period .ensures)
 

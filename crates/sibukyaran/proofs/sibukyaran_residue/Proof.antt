@@ -7,15 +7,10 @@ use Rattle.ring.specs.Residues.{residueOf}
 use borrow.Author.Needs.{needs}
 use Rattle.sibukyaran.proofs.sibukyaran_residue.Statement.{statement}
 use Rattle.sibukyaran.proofs.sibukyaran_residue.Tie as tie
-use Rattle.sibukyaran.proofs.sibukyaran_residue.Reads as reads
-use Rattle.sibukyaran.proofs.sibukyaran_residue.Lts as lts
-use Rattle.ring.proofs.residue.Reads as residue-reads
 
--- src/lib.rt:46:5
 residue-requires : tie.Need-residue-requires
 residue-requires c κs = search needs
 
--- src/lib.rt:42:1
 returns : tie.Need-returns
 returns c = c .residue .ensures ∙ ap (λ (x : ℤ). residueOf x (c .before .args .m)) (toZ-ofZ w64 (c .before .args .x) (c .before .fits .x))
 
