@@ -2,6 +2,7 @@
 -- Assumes nothing.
 use Prim.Native.Nat.{ℕ, _+_, _*_, _%_}
 use mathlib.Core.Bool.{Bool, _&&_}
+use mathlib.Core.List.{List, [], _∷_}
 use lib.Dec.{eqb}
 use Rattle.ring.specs.Searches.{least, greatest}
 
@@ -16,3 +17,8 @@ gcdOf a b = greatest (λ d. divides d a && divides d b) (a + b)
 -- the smallest m of 1..=a*b that a and b divide (0 for a = 0 or b = 0)
 unfoldable pub lcmOf : ℕ → ℕ → ℕ
 lcmOf a b = least (λ m. divides a m && divides b m) (a * b)
+
+-- the smallest common multiple of all numbers of a list; 1 of none
+abbrev pub lcmAll : List ℕ → ℕ
+lcmAll [] = 1
+lcmAll (x ∷ xs) = lcmOf x (lcmAll xs)

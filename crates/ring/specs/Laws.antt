@@ -7,5 +7,6 @@ pub mod Rotations
 pub mod Refusals
 pub mod Answers
 pub mod Searches
+pub mod Below
 pub mod Divisors
 pub mod Periods

@@ -1,9 +1,10 @@
 -- Document 01, "Refusals, in checking order".
 -- Assumes nothing.
 use Prim.Native.Nat.{ℕ, zero, suc}
-use mathlib.Core.Bool.{Bool, true, false, _||_}
+use mathlib.Core.Bool.{Bool, true, false, not, _||_}
 use mathlib.Core.List.{List, [], _∷_}
-use lib.Dec.{ltb}
+use lib.Dec.{ltb, eqb}
+use Rattle.ring.specs.Divisors.{divides}
 
 abbrev pub pick : Bool → ℕ → ℕ → ℕ
 pick true a b = a
@@ -22,3 +23,7 @@ onAccept (suc e) a b = b
 -- below 1 or above 65,536: the condition of 1 for slots and of 3 for a width, a step, a period or a length
 abbrev pub outside : ℕ → Bool
 outside n = ltb n 1 || ltb 65536 n
+
+-- 0 or no divisor of slots: the condition of 4 for a period or a length of values
+abbrev pub noPeriod : ℕ → ℕ → Bool
+noPeriod slots p = eqb p 0 || not (divides p slots)

@@ -1,7 +1,7 @@
 // Slot arithmetic modulo 2^64, residues and periods (poulpy's diagonals.rs, and gcd_i64 of
 // linear_transformation.rs). Numbers of refusals are those of document 01.
 ghost use mathlib.Core.Path.{_≡_};
-ghost use Prim.Native.Nat.{_≤_};
+ghost use Prim.Native.Nat.{_≤_, min};
 ghost use lib.ListN.{length};
 ghost use lib.Signed.{mag};
 ghost use Rattle.ring.specs.Slots.{modulus, mulm};
@@ -17,6 +17,20 @@ ghost use Rattle.ring.specs.Steps.{Divided, Stripped, Reduced};
 pub enum Answer {
     Refused(u32),
     Is(usize),
+}
+
+// x as a length or an index.
+pub fn wide(x: u32) -> usize
+    ensures { λ r. ⌜ r ≡ x ⌝ }
+{
+    x as usize
+}
+
+// The smaller of two lengths.
+pub fn least(a: usize, b: usize) -> usize
+    ensures { λ r. ⌜ r ≡ min a b ⌝ }
+{
+    if a < b { a } else { b }
 }
 
 // Whether n is below 1 or above 65,536: the test of refusals 1 and 3.

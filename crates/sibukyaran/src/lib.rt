@@ -1,19 +1,25 @@
 // The C library: each call of the crates below under a C name (include/sibukyaran.h). An answer
 // comes as its two numbers.
+mod maps;
+mod slots;
+
 ghost use mathlib.Core.Path.{_≡_};
-ghost use Rattle.ring.specs.Slots.{modulus, mulm};
-ghost use Rattle.ring.specs.Residues.{residueOf};
-ghost use Rattle.ring.specs.Answers.{numbers, answered};
-ghost use Rattle.ring.specs.Divisors.{gcdOf, lcmOf};
-ghost use Rattle.ring.specs.Periods.{minPeriod};
-ghost use Rattle.ring.specs.Calls.{lcmRefusal, periodRefusal, MultiplyAdd};
-ghost use Rattle.sibukyaran.specs.Numbers.{told};
+ghost use Rattle.ring.specs.Answers.{numbers};
+ghost use Rattle.diagonals.specs.Calls.{truths};
+ghost use Rattle.sibukyaran.specs.Numbers.{told, toldTruth};
 
 // A refusal (0: none) and a value (0 where refused).
 #[repr(C)]
 pub struct Numbers {
     pub refusal: u32,
     pub value: usize,
+}
+
+// A refusal (0: none) and a truth (false where refused).
+#[repr(C)]
+pub struct Truth {
+    pub refusal: u32,
+    pub value: bool,
 }
 
 fn numbers_of(a: ring::Answer) -> Numbers
@@ -31,44 +37,17 @@ fn numbers_of(a: ring::Answer) -> Numbers
     }
 }
 
-#[no_mangle]
-pub extern "C" fn sibukyaran_wrapping_mul(a: u64, b: u64) -> u64
-    ensures { λ r. ⌜ r ≡ mulm modulus a b ⌝ }
+fn truth_of(t: diagonals::Test) -> Truth
+    ensures { λ r. ⌜ toldTruth r ≡ truths t ⌝ }
 {
-    ring::wrapping_mul(a, b)
-}
-
-#[no_mangle]
-pub extern "C" fn sibukyaran_multiply_add_into(a: &[u64], b: &[u64], out: &mut [u64]) -> u32
-    ensures { λ r. ⌜ MultiplyAdd (now (a .entry)) (now (b .entry)) (now (out .entry)) (now (out .exit)) r ⌝ }
-{
-    ring::multiply_add_into(a, b, out)
-}
-
-#[no_mangle]
-pub extern "C" fn sibukyaran_residue(x: i64, m: u32) -> u32
-    ensures { λ r. ⌜ r ≡ residueOf x m ⌝ }
-{
-    ring::residue(x, m)
-}
-
-#[no_mangle]
-pub extern "C" fn sibukyaran_gcd(a: u32, b: u32) -> u32
-    ensures { λ r. ⌜ r ≡ gcdOf a b ⌝ }
-{
-    ring::gcd(a, b)
-}
-
-#[no_mangle]
-pub extern "C" fn sibukyaran_period_lcm(a: usize, b: usize) -> Numbers
-    ensures { λ r. ⌜ told r ≡ numbers (answered (lcmRefusal a b) (lcmOf a b)) ⌝ }
-{
-    numbers_of(ring::period_lcm(a, b))
-}
-
-#[no_mangle]
-pub extern "C" fn sibukyaran_min_period(v: &[u64]) -> Numbers
-    ensures { λ r. ⌜ told r ≡ numbers (answered (periodRefusal (now (v .entry))) (minPeriod (now (v .entry)))) ⌝ }
-{
-    numbers_of(ring::min_period(v))
+    match t {
+        diagonals::Test::Refused(e) => Truth {
+            refusal: e,
+            value: false,
+        },
+        diagonals::Test::Is(b) => Truth {
+            refusal: 0,
+            value: b,
+        },
+    }
 }

@@ -4,7 +4,7 @@ use std::hint::black_box;
 use std::process::ExitCode;
 use std::time::{Duration, Instant};
 
-use crate::ring;
+use crate::{diagonals, ring, runs};
 
 pub use std::hint::black_box as keep;
 
@@ -42,18 +42,28 @@ fn shown(seconds: f64) -> String {
 }
 
 impl Bench {
-    /// One line: the two times, the ratio of the Rust's to ours, and the ratio to reach.
-    pub fn pair<T, U>(&mut self, name: &str, reach: f64, mut ours: impl FnMut() -> T, mut rust: impl FnMut() -> U) {
+    /// One line: the two times, the ratio of the Rust's to ours, and the ratio to reach, if there is one.
+    pub fn pair<T, U>(
+        &mut self,
+        name: &str,
+        reach: Option<f64>,
+        mut ours: impl FnMut() -> T,
+        mut rust: impl FnMut() -> U,
+    ) {
         let (mut best_ours, mut best_rust) = (f64::INFINITY, f64::INFINITY);
         for _ in 0..ROUNDS {
             best_ours = best_ours.min(timed(&mut ours));
             best_rust = best_rust.min(timed(&mut rust));
         }
         let ratio = best_rust / best_ours;
-        let verdict = if ratio >= reach { "reached" } else { "MISSED" };
-        self.missed += (ratio < reach) as u32;
+        let verdict = match reach {
+            None => "no target".to_string(),
+            Some(reach) if ratio >= reach => format!("to reach {reach:.2}  reached"),
+            Some(reach) => format!("to reach {reach:.2}  MISSED"),
+        };
+        self.missed += reach.is_some_and(|reach| ratio < reach) as u32;
         println!(
-            "{name:<52} ours {:>10}  rust {:>10}  ratio {ratio:>9.2}  to reach {reach:.2}  {verdict}",
+            "{name:<53} ours {:>10}  rust {:>10}  ratio {ratio:>7.2}  {verdict}",
             shown(best_ours),
             shown(best_rust)
         );
@@ -63,6 +73,8 @@ impl Bench {
 pub fn run() -> ExitCode {
     let mut bench = Bench::default();
     ring::bench(&mut bench);
+    diagonals::bench(&mut bench);
+    runs::bench(&mut bench);
     println!("{} missed", bench.missed);
     ExitCode::from((bench.missed > 0) as u8)
 }

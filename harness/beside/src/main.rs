@@ -4,19 +4,29 @@
 //! sample of the Rust's answers. `beside bench` times both in one run.
 
 mod bench;
+mod diagonals;
 mod ours;
 mod random;
 mod ring;
+mod runs;
 mod sample;
 mod tally;
 
 use std::process::ExitCode;
 
+/// No call needs more stack than this, the harness's own use included.
+const STACK: usize = 1 << 20;
+
 fn compare() -> ExitCode {
-    let mut tally = tally::Tally::default();
-    ring::compare(&mut tally);
-    sample::compare(&mut tally);
-    tally.close()
+    let all = || {
+        let mut tally = tally::Tally::default();
+        ring::compare(&mut tally);
+        diagonals::compare(&mut tally);
+        runs::compare(&mut tally);
+        sample::compare(&mut tally);
+        tally.close()
+    };
+    std::thread::Builder::new().stack_size(STACK).spawn(all).unwrap().join().unwrap_or(ExitCode::FAILURE)
 }
 
 fn main() -> ExitCode {

@@ -30,3 +30,8 @@ impl Random {
         (0..n).map(|_| self.word()).collect()
     }
 }
+
+/// The divisors of n, rising.
+pub fn divisors(n: usize) -> impl Iterator<Item = usize> {
+    (1..=n).filter(move |d| n.is_multiple_of(*d))
+}

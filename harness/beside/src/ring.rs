@@ -8,7 +8,7 @@ use poulpy_core::layouts::{
 
 use crate::bench::{Bench, keep};
 use crate::ours::{self, Lent, Numbers};
-use crate::random::Random;
+use crate::random::{Random, divisors};
 use crate::sample::Sample;
 use crate::tally::Tally;
 
@@ -26,19 +26,8 @@ const ENDS: [u64; 11] = [
     0xffff_ffff_ffff_ffff,
 ];
 
-const SHIFTS: [i64; 11] = [
-    i64::MIN,
-    i64::MIN + 1,
-    i64::MIN + 65_536,
-    -65_537,
-    -65_536,
-    -1,
-    0,
-    1,
-    65_536,
-    i64::MAX - 1,
-    i64::MAX,
-];
+const SHIFTS: [i64; 11] =
+    [i64::MIN, i64::MIN + 1, i64::MIN + 65_536, -65_537, -65_536, -1, 0, 1, 65_536, i64::MAX - 1, i64::MAX];
 
 /// Lengths with odd and repeated prime factors, and the largest.
 const LONG: [usize; 6] = [46_189, 59_049, 64_974, 65_521, 65_535, 65_536];
@@ -46,19 +35,11 @@ const LONG: [usize; 6] = [46_189, 59_049, 64_974, 65_521, 65_535, 65_536];
 /// What the Rust answers, or refusal 3 where document 01 has it.
 fn right_lcm(a: usize, b: usize) -> Numbers {
     let range = 1..=65_536;
-    if range.contains(&a) && range.contains(&b) {
-        Numbers::is(period_lcm(a, b))
-    } else {
-        Numbers::refused(3)
-    }
+    if range.contains(&a) && range.contains(&b) { Numbers::is(period_lcm(a, b)) } else { Numbers::refused(3) }
 }
 
 fn right_min_period(v: &[u64]) -> Numbers {
-    if (1..=65_536).contains(&v.len()) {
-        Numbers::is(call_min_period(v))
-    } else {
-        Numbers::refused(3)
-    }
+    if (1..=65_536).contains(&v.len()) { Numbers::is(call_min_period(v)) } else { Numbers::refused(3) }
 }
 
 fn right_multiply_add(a: &[u64], b: &[u64], out: &[u64]) -> (u32, Vec<u64>) {
@@ -71,10 +52,6 @@ fn right_multiply_add(a: &[u64], b: &[u64], out: &[u64]) -> (u32, Vec<u64>) {
         slot.0
     };
     (0, (0..out.len()).map(sum).collect())
-}
-
-fn divisors(n: usize) -> impl Iterator<Item = usize> {
-    (1..=n).filter(move |d| n.is_multiple_of(*d))
 }
 
 /// n words that repeat after d; the base takes few values, so that it may repeat sooner.
@@ -244,12 +221,12 @@ pub fn bench(bench: &mut Bench) {
         }),
     ];
     for (name, v) in &vectors {
-        bench.pair(name, 1.0, || keep(ours::min_period(keep(v))), || keep(call_min_period(keep(v))));
+        bench.pair(name, Some(1.0), || keep(ours::min_period(keep(v))), || keep(call_min_period(keep(v))));
     }
     let pairs: Vec<(usize, usize)> = (0..1_000).map(|_| (1 + random.below(n), 1 + random.below(n))).collect();
     bench.pair(
         "period_lcm, 1,000 random pairs",
-        1.0,
+        Some(1.0),
         || pairs.iter().map(|&(a, b)| ours::period_lcm(keep(a), keep(b)).value).fold(0, usize::wrapping_add),
         || pairs.iter().map(|&(a, b)| plain_lcm(keep(a), keep(b))).fold(0, usize::wrapping_add),
     );
@@ -257,7 +234,7 @@ pub fn bench(bench: &mut Bench) {
     let (mut x, mut y) = (random.words(4_096), random.words(4_096));
     bench.pair(
         "multiply_add_into, 4,096 words, beside a plain loop",
-        0.9,
+        Some(0.9),
         || keep(ours::multiply_add_into(keep(&a), keep(&b), keep(&mut x))),
         || plain_multiply_add(keep(&a), keep(&b), keep(&mut y)),
     );

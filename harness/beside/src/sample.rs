@@ -6,8 +6,8 @@ use std::fs;
 use std::path::PathBuf;
 use std::process::ExitCode;
 
-use crate::ring;
 use crate::tally::Tally;
+use crate::{diagonals, ring, runs};
 
 #[derive(Default)]
 pub struct Sample {
@@ -33,7 +33,9 @@ impl Sample {
 fn made() -> Sample {
     let mut sample = Sample::default();
     ring::sample(&mut sample);
-    assert!(sample.calls.len() <= LONGEST_TEXT, "the sample is too long");
+    diagonals::sample(&mut sample);
+    runs::sample(&mut sample);
+    assert!(sample.calls.len() <= LONGEST_TEXT, "the sample is too long: {} bytes", sample.calls.len());
     sample
 }
 

@@ -20,3 +20,21 @@ when-is (suc e) v n h = let z : _≡_ {A = ℕ} 0 1 = cc in omega arith
 pub when-refused : (e v x : ℕ) → Refused x ≡ answered e v → x ≡ e
 when-refused zero v x h = let z : _≡_ {A = ℕ} 0 1 = cc in omega arith
 when-refused (suc e) v x h = cc
+
+-- at a return
+pub answered-refused : (e v : ℕ) → (e ≡ 0 → ⊥) → Refused e ≡ answered e v
+answered-refused zero v h = absurd (h refl)
+answered-refused (suc e) v h = refl
+
+pub answered-accepted : (e v : ℕ) → e ≡ 0 → Is v ≡ answered e v
+answered-accepted e v h = rw h
+
+-- the cases tell themselves apart
+pub no-refused {ℓ} : {X : Type ℓ} {x v : ℕ} → Refused x ≡ Is v → X
+no-refused h = let q : _≡_ {A = ℕ} 0 1 = cc in absurd (no-one q)
+  where
+    no-one : _≡_ {A = ℕ} 0 1 → ⊥
+    no-one q = omega arith
+
+pub same-value : {n v : ℕ} → Is n ≡ Is v → n ≡ v
+same-value h = cc

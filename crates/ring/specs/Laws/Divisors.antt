@@ -4,11 +4,14 @@
 use Prim.Native.Nat.{ℕ, zero, suc, _+_, _*_, _/_, _%_, _≤_, _<_, _∣_}
 use mathlib.Core.Path.{_≡_, sym, ap, _∙_}
 use mathlib.Core.Bool.{true}
+use mathlib.Core.List.{List, [], _∷_, _++_}
 use mathlib.Core.Logic.{⊎-elim}
-use native.Mathlib.Nat.{mod-lt, dvd-refl, dvd-zero, dvd-mod-iff, zero-lt-suc, le-refl, eq-zero-or-pos, le-of-dvd, mod-eq-zero-of-dvd, dvd-of-mod-eq-zero, eq-zero-of-zero-dvd, mod-def, mul-sub, mul-assoc, mul-one, div-mul-cancel, dvd-mul-right, dvd-sub, dvd-mul-left, dvd-mul-right-of-dvd, mul-comm, mul-right-comm, mul-pos, pos-of-dvd-of-pos, mul-div-cancel', mul-dvd-mul, dvd-of-mul-dvd-mul-right}
+use native.Mathlib.Nat.{mod-lt, dvd-refl, dvd-zero, dvd-mod-iff, zero-lt-suc, le-refl, eq-zero-or-pos, le-of-dvd, mod-eq-zero-of-dvd, dvd-of-mod-eq-zero, eq-zero-of-zero-dvd, mod-def, mul-sub, mul-assoc, mul-one, div-mul-cancel, dvd-mul-right, dvd-sub, dvd-mul-left, dvd-mul-right-of-dvd, mul-comm, mul-right-comm, mul-pos, pos-of-dvd-of-pos, mul-div-cancel', mul-dvd-mul, dvd-of-mul-dvd-mul-right, dvd-antisymm, one-dvd, dvd-trans}
 use native.Mathlib.Omega.{arith}
 use borrow.Author.Tests.{eq-eqb, eqb-true}
-use Rattle.ring.specs.Divisors.{divides, gcdOf, lcmOf}
+use Rattle.ring.specs.Divisors.{divides, gcdOf, lcmOf, lcmAll}
+use Rattle.ring.specs.Lists.{Each}
+use Rattle.ring.specs.Laws.Lists.{each-then}
 use Rattle.ring.specs.Laws.Searches.{both, first, second, greatest-is, least-is}
 
 pub divides-yes : (d n : ℕ) → d ∣ n → divides d n ≡ true
@@ -169,3 +172,55 @@ module _ (a b : ℕ) (pa : 1 ≤ a) (pb : 1 ≤ b) where
   -- the law of the definition
   pub lcm-law : IsLcm a b (lcmOf a b)
   lcm-law = rw lcm-is is-lcm
+
+-- every such number is the least common multiple
+pub lcm-unique : (a b m : ℕ) → 1 ≤ a → 1 ≤ b → IsLcm a b m → lcmOf a b ≡ m
+lcm-unique a b m pa pb h =
+    let l = lcm-law a b pa pb in
+    dvd-antisymm (l .most m (h .left) (h .right)) (h .most (lcmOf a b) (l .left) (l .right))
+
+pub lcm-pos : (a b : ℕ) → 1 ≤ a → 1 ≤ b → 1 ≤ lcmOf a b
+lcm-pos a b pa pb =
+    let h : lcmOf a b ∣ a * b = lcm-law a b pa pb .most (a * b) (dvd-mul-right a b) (dvd-mul-left b a) in
+    pos-of-dvd-of-pos h (mul-pos pa pb)
+
+pub lcm-one : (a : ℕ) → 1 ≤ a → lcmOf a 1 ≡ a
+lcm-one a pa = lcm-unique a 1 a pa (le-refl 1) (record { left = dvd-refl a; right = one-dvd a; most = λ x h k. h })
+
+pub one-lcm : (a : ℕ) → 1 ≤ a → lcmOf 1 a ≡ a
+one-lcm a pa = lcm-unique 1 a a (le-refl 1) pa (record { left = one-dvd a; right = dvd-refl a; most = λ x h k. k })
+
+pub lcm-assoc : (a b c : ℕ) → 1 ≤ a → 1 ≤ b → 1 ≤ c → lcmOf (lcmOf a b) c ≡ lcmOf a (lcmOf b c)
+lcm-assoc a b c pa pb pc =
+    let ab = lcm-law a b pa pb in
+    let bc = lcm-law b c pb pc in
+    let r = lcm-law a (lcmOf b c) pa (lcm-pos b c pb pc) in
+    lcm-unique (lcmOf a b) c (lcmOf a (lcmOf b c)) (lcm-pos a b pa pb) pc
+    (record {
+      left = ab .most _ (r .left) (dvd-trans b (bc .left) (r .right));
+      right = dvd-trans c (bc .right) (r .right);
+      most = λ x h k. r .most x (dvd-trans a (ab .left) h) (bc .most x (dvd-trans b (ab .right) h) k);
+    })
+
+-- ---- of a list
+
+pub lcmAll-pos : (xs : List ℕ) → Each (λ x. 1 ≤ x) xs → 1 ≤ lcmAll xs
+lcmAll-pos [] h = le-refl 1
+lcmAll-pos (x ∷ xs) h = lcm-pos x (lcmAll xs) (h .0) (lcmAll-pos xs (h .1))
+
+-- it divides every common multiple
+pub lcmAll-most : (xs : List ℕ) (m : ℕ) → Each (λ x. 1 ≤ x) xs → Each (λ x. x ∣ m) xs → lcmAll xs ∣ m
+lcmAll-most [] m p h = one-dvd m
+lcmAll-most (x ∷ xs) m p h = lcm-law x (lcmAll xs) (p .0) (lcmAll-pos xs (p .1)) .most m (h .0) (lcmAll-most xs m (p .1) (h .1))
+
+-- and is one
+pub lcmAll-multiple : (xs : List ℕ) → Each (λ x. 1 ≤ x) xs → Each (λ x. x ∣ lcmAll xs) xs
+lcmAll-multiple [] p = tt
+lcmAll-multiple (x ∷ xs) p =
+    let l = lcm-law x (lcmAll xs) (p .0) (lcmAll-pos xs (p .1)) in
+    (l .left, each-then (λ y h. dvd-trans y h (l .right)) xs (lcmAll-multiple xs (p .1)))
+
+-- one number more, as a loop takes it
+pub lcmAll-snoc : (xs : List ℕ) (x : ℕ) → Each (λ y. 1 ≤ y) xs → 1 ≤ x → lcmAll (xs ++ (x ∷ [])) ≡ lcmOf (lcmAll xs) x
+lcmAll-snoc [] x p h = lcm-one x h ∙ sym (one-lcm x h)
+lcmAll-snoc (y ∷ xs) x p h = ap (lcmOf y) (lcmAll-snoc xs x (p .1) h) ∙ sym (lcm-assoc y (lcmAll xs) x (p .0) (lcmAll-pos xs (p .1)) h)

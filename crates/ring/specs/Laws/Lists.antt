@@ -1,14 +1,17 @@
--- Laws of sums over lists, for any modulus and any elements, and of statements about each element.
+-- Laws of sums over lists, for any modulus and any elements, of lists one after the other, of lists turned round, of
+-- rising numbers, and of statements about each element.
 -- Assumes nothing.
-use mathlib.Core.Path.{_≡_, refl, sym, ap, _∙_}
-use mathlib.Core.List.{List, [], _∷_, _++_, map}
-use Prim.Native.Nat.{ℕ, zero, suc, _+_, _%_, _<_}
-use native.Mathlib.Nat.{not-suc-le-zero, le-of-suc-le-suc, zero-mod, add-zero, add-mod-mod}
+use mathlib.Core.Path.{_≡_, refl, sym, ap, subst, _∙_}
+use mathlib.Core.List.{List, [], _∷_, _++_, map, reverse, reverseAux, reverse-cons, append-assoc}
+use Prim.Native.Nat.{ℕ, zero, suc, _+_, _*_, _%_, _<_}
+use native.Mathlib.Nat.{not-suc-le-zero, le-of-suc-le-suc, zero-mod, add-zero, add-comm, add-mod-mod, zero-mul, suc-mul}
 use native.Mathlib.Numerals.{add-one}
-use lib.ListN.{length, getD, take}
-use lib.Seq.{take-suc}
+use native.Mathlib.Omega.{arith}
+use lib.ListN.{length, getD, take, drop, length-append}
+use Rattle.ring.specs.Vectors.{tabulate}
+use lib.Seq.{take-suc, drop-append-seam}
 use Rattle.ring.specs.Slots.{addm, mulm}
-use Rattle.ring.specs.Lists.{sumBy, join, Each}
+use Rattle.ring.specs.Lists.{sumBy, join, Each, Rising}
 use Rattle.ring.specs.Laws.Slots.{addm-assoc, addm-mod, addm-lt, addm-swap, addm-left, zero-addm, mulm-addm, mulm-comm, zero-mulm}
 
 -- ---- each element
@@ -27,9 +30,96 @@ module _ {A : Type 0} where
   each-at P (x ∷ xs) d h zero l = h .0
   each-at P (x ∷ xs) d h (suc i) l = each-at P xs d (h .1) i (le-of-suc-le-suc l)
 
+  pub each-tabulate : (P : A → Type 0) (n : ℕ) (f : ℕ → A) → ((i : ℕ) → i < n → P (f i)) → Each P (tabulate n f)
+  each-tabulate P zero f h = tt
+  each-tabulate P (suc n) f h = (h 0 (omega arith), each-tabulate P n (λ i. f (suc i)) (λ i l. h (suc i) (omega arith)))
+
+  pub tabulate-each : (P : A → Type 0) (n : ℕ) (f : ℕ → A) → Each P (tabulate n f) → (i : ℕ) → i < n → P (f i)
+  tabulate-each P zero f h i l = absurd (not-suc-le-zero l)
+  tabulate-each P (suc n) f h zero l = h .0
+  tabulate-each P (suc n) f h (suc i) l = tabulate-each P n (λ i. f (suc i)) (h .1) i (le-of-suc-le-suc l)
+
+  pub each-map : {B : Type 0} (P : A → Type 0) (g : B → A) (xs : List B) → Each (λ x. P (g x)) xs → Each P (map g xs)
+  each-map P g [] h = tt
+  each-map P g (x ∷ xs) h = (h .0, each-map P g xs (h .1))
+
+  pub map-each : {B : Type 0} (P : A → Type 0) (g : B → A) (xs : List B) → Each P (map g xs) → Each (λ x. P (g x)) xs
+  map-each P g [] h = tt
+  map-each P g (x ∷ xs) h = (h .0, map-each P g xs (h .1))
+
+  -- what two statements about each element tell
+  pub each-both : {P Q R : A → Type 0} → ((x : A) → P x → Q x → R x) → (xs : List A) → Each P xs → Each Q xs → Each R xs
+  each-both f [] h k = tt
+  each-both f (x ∷ xs) h k = (f x (h .0) (k .0), each-both f xs (h .1) (k .1))
+
   pub each-append : (P : A → Type 0) (xs ys : List A) → Each P xs → Each P ys → Each P (xs ++ ys)
   each-append P [] ys h k = k
   each-append P (x ∷ xs) ys h k = (h .0, each-append P xs ys (h .1) k)
+
+  each-onto : (P : A → Type 0) (xs ys : List A) → Each P xs → Each P ys → Each P (reverseAux xs ys)
+  each-onto P [] ys h k = k
+  each-onto P (x ∷ xs) ys h k = each-onto P xs (x ∷ ys) (h .1) (h .0, k)
+
+  pub each-reverse : (P : A → Type 0) (xs : List A) → Each P xs → Each P (reverse xs)
+  each-reverse P xs h = each-onto P xs [] h tt
+
+-- ---- lists turned round
+
+map-onto : {A B : Type 0} (f : A → B) (xs ys : List A) → map f (reverseAux xs ys) ≡ reverseAux (map f xs) (map f ys)
+map-onto f [] ys = refl
+map-onto f (x ∷ xs) ys = map-onto f xs (x ∷ ys)
+
+pub map-reverse : {A B : Type 0} (f : A → B) (xs : List A) → map f (reverse xs) ≡ reverse (map f xs)
+map-reverse f xs = map-onto f xs []
+
+-- ---- rising numbers
+
+pub rising-tabulate : (n : ℕ) (f : ℕ → ℕ) → ((i j : ℕ) → i < j → j < n → f i < f j) → Rising (tabulate n f)
+rising-tabulate zero f h = tt
+rising-tabulate (suc n) f h = (
+  each-tabulate (λ y. f 0 < y) n (λ i. f (suc i)) (λ i l. h 0 (suc i) (omega arith) (omega arith)),
+  rising-tabulate n (λ i. f (suc i)) (λ i j l m. h (suc i) (suc j) (omega arith) (omega arith)),
+)
+
+pub tabulate-rising : (n : ℕ) (f : ℕ → ℕ) → Rising (tabulate n f) → (i j : ℕ) → i < j → j < n → f i < f j
+tabulate-rising zero f h i j l m = absurd (not-suc-le-zero m)
+tabulate-rising (suc n) f h i zero l m = absurd (not-suc-le-zero l)
+tabulate-rising (suc n) f h zero (suc j) l m = tabulate-each (λ y. f 0 < y) n (λ i. f (suc i)) (h .0) j (le-of-suc-le-suc m)
+tabulate-rising (suc n) f h (suc i) (suc j) l m = tabulate-rising n (λ i. f (suc i)) (h .1) i j (le-of-suc-le-suc l) (le-of-suc-le-suc m)
+
+-- numbers below n, and n behind them
+pub rising-snoc : (xs : List ℕ) (n : ℕ) → Rising xs → Each (λ k. k < n) xs → Rising (xs ++ (n ∷ []))
+rising-snoc [] n r l = (tt, tt)
+rising-snoc (x ∷ xs) n r l = (each-append (λ y. x < y) xs (n ∷ []) (r .0) (l .0, tt), rising-snoc xs n (r .1) (l .1))
+
+-- rising numbers, each replaced by f that falls, rise again from the last to the first
+pub rising-reverse : (f : ℕ → ℕ) (P : ℕ → Type 0) → ((x y : ℕ) → P x → P y → x < y → f y < f x) → (xs : List ℕ) → Each P xs → Rising xs → Rising (reverse (map f xs))
+rising-reverse f P falls [] h r = tt
+rising-reverse f P falls (x ∷ xs) h r =
+    subst Rising (sym (reverse-cons (f x) (map f xs)))
+    (rising-snoc (reverse (map f xs)) (f x) (rising-reverse f P falls xs (h .1) (r .1))
+    (each-reverse (λ k. k < f x) (map f xs)
+    (each-map (λ k. k < f x) f xs (each-both (λ y p l. falls x y (h .0) p l) xs (h .1) (r .0)))))
+
+-- ---- lists one after the other
+
+-- a common front is left out
+pub append-cancel : {A : Type 0} (xs ys zs : List A) → xs ++ ys ≡ xs ++ zs → ys ≡ zs
+append-cancel xs ys zs e = sym (drop-append-seam xs ys) ∙ ap (drop (length xs)) e ∙ drop-append-seam xs zs
+
+pub join-map : {A B C : Type 0} (g : A → B) (f : B → List C) (xs : List A) → join f (map g xs) ≡ join (λ x. f (g x)) xs
+join-map g f [] = refl
+join-map {C} g f (x ∷ xs) = ap (λ (t : List C). f (g x) ++ t) (join-map g f xs)
+
+module _ {A B : Type 0} where
+  pub join-append : (f : A → List B) (xs ys : List A) → join f (xs ++ ys) ≡ join f xs ++ join f ys
+  join-append f [] ys = refl
+  join-append f (x ∷ xs) ys = rw (join-append f xs ys) (sym (append-assoc (f x) (join f xs) (join f ys)))
+
+  -- lists of one length
+  pub length-join : (f : A → List B) (c : ℕ) → ((x : A) → length (f x) ≡ c) → (xs : List A) → length (join f xs) ≡ length xs * c
+  length-join f c h [] = sym (zero-mul c)
+  length-join f c h (x ∷ xs) = rw (length-append, h x, length-join f c h xs, suc-mul (length xs) c) (add-comm c (length xs * c))
 
 -- ---- sums
 

@@ -1,5 +1,5 @@
 -- Periods of a list: the list read around is a sequence that a period shifts onto itself, so periods are closed under the greatest common divisor.
--- The smallest period: it is one, it is at most every other, and it divides every other.
+-- The smallest period: it is one, it is at most every other, and it divides every other, and every shift that leaves the list read around as it is.
 -- Assumes nothing.
 use Prim.Native.Nat.{ℕ, zero, suc, _+_, _-_, _*_, _/_, _%_, _≤_, _<_, _∣_}
 use mathlib.Core.Path.{_≡_, sym, ap, _∙_}
@@ -65,7 +65,7 @@ not-refined {v} {p} f k o h n i e =
 -- ---- sequences that a shift leaves as they are
 
 module _ (u : ℕ → ℕ) where
-  abbrev Shift : ℕ → Type 0
+  abbrev pub Shift : ℕ → Type 0
   Shift x = (t : ℕ) → u (t + x) ≡ u t
 
   shift-mul : (x : ℕ) → Shift x → (j t : ℕ) → u (t + j * x) ≡ u t
@@ -82,11 +82,16 @@ module _ (u : ℕ → ℕ) where
 -- ---- the list read around
 
 module _ (v : List ℕ) (n : 0 < length v) where
-  abbrev around : ℕ → ℕ
+  abbrev pub around : ℕ → ℕ
   around t = getD v (t % length v) 0
 
   around-mod : (p : ℕ) → IsPeriod v p → (t : ℕ) → around t ≡ getD v (t % p) 0
   around-mod p h t = h .repeats (t % length v) (mod-lt t n) ∙ ap (λ (x : ℕ). getD v x 0) (mod-mod-of-dvd p t (h .divides))
+
+  -- read modulo a multiple of a period
+  pub around-multiple : (p q : ℕ) → IsPeriod v p → p ∣ q → (t : ℕ) → around (t % q) ≡ around t
+  around-multiple p q h d t =
+      around-mod p h (t % q) ∙ ap (λ (x : ℕ). getD v x 0) (mod-mod-of-dvd p t d) ∙ sym (around-mod p h t)
 
   shifts : (p : ℕ) → IsPeriod v p → Shift around p
   shifts p h t = around-mod p h (t + p) ∙ ap (λ (x : ℕ). getD v x 0) (add-mod-right t p) ∙ sym (around-mod p h t)
@@ -140,3 +145,11 @@ module _ (v : List ℕ) (n : 0 < length v) where
       let k = is-gcd m p in
       let e : gcdOf m p ≡ m = le-antisymm (le-of-dvd (positive min-is) (k .left)) (min-least (gcdOf m p) (period-gcd m p min-is h)) in
       rw e at (k .right)
+
+  -- and every number that shifts the list read around onto itself, whether it divides the length or not
+  pub min-shift : (p : ℕ) → Shift around p → minPeriod v ∣ p
+  min-shift p h =
+      let k = is-gcd p (length v) in
+      dvd-trans (minPeriod v)
+      (min-divides (gcdOf p (length v)) (by-shift (gcdOf p (length v)) (k .right) (closed (Shift around) (shift-mod around) p (length v) h (shifts (length v) period-length))))
+      (k .left)

@@ -3,9 +3,11 @@
 use Prim.Native.Nat.{ℕ, zero, suc, _≤_}
 use mathlib.Core.Path.{_≡_, refl}
 use mathlib.Core.Bool.{Bool, true, false, _||_, true≢false}
+use mathlib.Core.List.{List, [], _∷_, _++_}
 use lib.Dec.{ltb}
 use borrow.Author.Tests.{ltb-false, le-ltb}
-use Rattle.ring.specs.Refusals.{onAccept, outside}
+use Rattle.ring.specs.Lists.{Each}
+use Rattle.ring.specs.Refusals.{pick, firstOf, onAccept, outside}
 
 -- where the number is not a literal: a refused call leaves what was held
 pub onAccept-refused : {A : Type 0} (r : ℕ) (new old : A) → (r ≡ 0 → ⊥) → onAccept r new old ≡ old
@@ -16,7 +18,40 @@ onAccept-refused (suc r) new old h = refl
 pub onAccept-accepted : {A : Type 0} (r : ℕ) (new old : A) → r ≡ 0 → onAccept r new old ≡ new
 onAccept-accepted r new old h = rw h
 
-either : (a b : Bool) → (a || b) ≡ false → (a ≡ false) × (b ≡ false)
+-- ---- refusals, and further ones behind them
+
+pick-refused : (b : Bool) (n x y : ℕ) → ((x ≡ 0 → ⊥) → y ≡ x) → (pick b n x ≡ 0 → ⊥) → pick b n y ≡ pick b n x
+pick-refused true n x y f h = refl
+pick-refused false n x y f h = f h
+
+pick-later : (b : Bool) (n x y z : ℕ) → (n ≡ 0 → ⊥) → (x ≡ 0 → y ≡ z) → pick b n x ≡ 0 → pick b n y ≡ z
+pick-later true n x y z p f h = absurd (p h)
+pick-later false n x y z p f h = f h
+
+-- one of the first applies: the further ones do not count
+pub first-refused : (cs ds : List (Bool × ℕ)) → (firstOf cs ≡ 0 → ⊥) → firstOf (cs ++ ds) ≡ firstOf cs
+first-refused [] ds h = absurd (h refl)
+first-refused (c ∷ cs) ds h = pick-refused (c .0) (c .1) (firstOf cs) (firstOf (cs ++ ds)) (first-refused cs ds) h
+
+-- none of the first applies
+pub first-later : (cs ds : List (Bool × ℕ)) → Each (λ c. c .1 ≡ 0 → ⊥) cs → firstOf cs ≡ 0 → firstOf (cs ++ ds) ≡ firstOf ds
+first-later [] ds p h = refl
+first-later (c ∷ cs) ds p h = pick-later (c .0) (c .1) (firstOf cs) (firstOf (cs ++ ds)) (firstOf ds) (p .0) (first-later cs ds (p .1)) h
+
+pick-none : (b : Bool) (n x : ℕ) → (n ≡ 0 → ⊥) → pick b n x ≡ 0 → (b ≡ false) × (x ≡ 0)
+pick-none true n x p h = absurd (p h)
+pick-none false n x p h = (refl, h)
+
+-- an accepted call: no condition holds
+pub none-holds : (cs : List (Bool × ℕ)) → Each (λ c. c .1 ≡ 0 → ⊥) cs → firstOf cs ≡ 0 → Each (λ c. c .0 ≡ false) cs
+none-holds [] p h = tt
+none-holds (c ∷ cs) p h =
+    let q = pick-none (c .0) (c .1) (firstOf cs) (p .0) h in
+    (q .0, none-holds cs (p .1) (q .1))
+
+-- ---- bounds
+
+pub either : (a b : Bool) → (a || b) ≡ false → (a ≡ false) × (b ≡ false)
 either true b h = absurd (true≢false h)
 either false b h = (refl, h)
 

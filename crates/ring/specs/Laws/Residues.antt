@@ -4,10 +4,10 @@
 use mathlib.Core.Path.{_≡_, refl, sym, ap, _∙_}
 use mathlib.Core.Bool.{Bool, true, false, cond}
 use Prim.Native.Nat.{ℕ, zero, suc, _+_, _-_, _*_, _/_, _%_, _<_, _≤_, _∣_}
-use native.Mathlib.Nat.{add-comm, zero-add, zero-mul, mul-comm, zero-mod, add-zero, mod-self, mod-eq-zero-of-dvd, pos-of-dvd-of-pos, mod-lt, zero-lt-suc, not-suc-le-zero, add-mod-mod, mod-add-mod, mod-add-div, mod-eq-of-lt, mod-mod, add-mul-mod-self-left, mul-mod-right}
+use native.Mathlib.Nat.{add-comm, zero-add, zero-mul, mul-comm, zero-mod, add-zero, sub-zero, mod-self, add-mod-right, mod-eq-zero-of-dvd, pos-of-dvd-of-pos, mod-lt, zero-lt-suc, not-suc-le-zero, add-mod-mod, mod-add-mod, mod-add-div, mod-eq-of-lt, mod-mod, add-mul-mod-self-left, mul-mod-right}
 use native.Mathlib.Omega.{arith}
 use lib.Dec.{ltb}
-use lib.IntN.{ℤ, pos, negsuc, negℤ, _+ℤ_, _*ℤ_, +ℤ-assoc, +ℤ-invr}
+use lib.IntN.{ℤ, pos, negsuc, negℤ, _+ℤ_, _-ℤ_, _*ℤ_, +ℤ-assoc, +ℤ-invr}
 use borrow.Author.Tests.{ltb-true, ltb-false, lt-ltb, le-ltb}
 use Rattle.ring.specs.Residues.{residueOf}
 use Rattle.ring.specs.Laws.Slots.{mod-mul-mod, mul-mod-mod}
@@ -53,6 +53,14 @@ pub residue-add : (j : ℕ) (z : ℤ) (m : ℕ) → 0 < m → residueOf (pos j +
 residue-add j z zero h = absurd (not-suc-le-zero h)
 residue-add j (pos n) (suc m) h = sym (add-mod-mod j n (suc m))
 residue-add j (negsuc n) (suc m) h = add-negsuc j n m (ltb j (suc n)) refl
+
+-- the residue of a difference
+pub residue-sub : (j i m : ℕ) → i < m → residueOf (pos j -ℤ pos i) m ≡ (j + (m - i)) % m
+residue-sub j i zero l = absurd (not-suc-le-zero l)
+residue-sub j zero (suc m) l = simp (add-zero, sub-zero) (sym (add-mod-right j (suc m)))
+residue-sub j (suc i) (suc m) l =
+    residue-add j (negsuc i) (suc m) (zero-lt-suc m)
+    ∙ ap (λ (x : ℕ). (j + x) % suc m) (let e : i % suc m ≡ i = mod-eq-of-lt (omega arith) in omega arith)
 
 -- r + n + 1 less n + 1
 back : (r n : ℕ) → pos (r + suc n) +ℤ negsuc n ≡ pos r

@@ -7,6 +7,7 @@ use native.Mathlib.Nat.{add-zero, dvd-refl, mod-eq-of-lt}
 use native.Mathlib.Omega.{arith}
 use lib.IntN.{ℤ, pos, _+ℤ_, +ℤ-assoc, +ℤ-comm}
 use lib.ListN.{length, getD}
+use Rattle.ring.specs.Vectors.{tabulate}
 use Rattle.ring.specs.Residues.{residueOf}
 use Rattle.ring.specs.Rotations.{rotated}
 use Rattle.ring.specs.Laws.Vectors.{length-tabulate, getD-tabulate, is-tabulate, tabulate-cong}
@@ -26,6 +27,11 @@ unfolding rotated
 rotated-none v = sym (is-tabulate (length v) _ 0 v refl (λ i l. let h : 0 < length v = omega arith in rw (add-zero, residue-pos i (length v) h, mod-eq-of-lt l)))
 
 module _ (v : List ℕ) (h : 0 < length v) where
+  -- as many words as asked for: those of v over and over
+  pub rotated-copies : (n : ℕ) → rotated v (pos 0) n ≡ tabulate n (λ j. getD v (j % length v) 0)
+  unfolding rotated
+  rotated-copies n = tabulate-cong n _ _ (λ j l. rw (add-zero, residue-pos j (length v) h))
+
   -- only the residue of the shift counts
   pub rotated-residue : (k : ℤ) (n : ℕ) → rotated v k n ≡ rotated v (pos (residueOf k (length v))) n
   unfolding rotated

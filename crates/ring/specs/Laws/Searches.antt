@@ -1,10 +1,13 @@
 -- Laws of the searches: which number a search finds, and what the number found satisfies.
 -- Assumes nothing.
 use Prim.Native.Nat.{ℕ, zero, suc, _≤_, _<_}
-use mathlib.Core.Path.{_≡_, refl, sym}
+use mathlib.Core.Path.{_≡_, refl, sym, _∙_}
 use mathlib.Core.Bool.{Bool, true, false, _&&_, true≢false, Bool-discrete}
 use mathlib.Core.Logic.{_⊎_, inl, inr, ⊎-elim}
-use native.Mathlib.Nat.{eq-or-lt-of-le, not-suc-le-zero}
+use native.Mathlib.Nat.{eq-or-lt-of-le, not-suc-le-zero, lt-of-not-le}
+use native.Mathlib.Decide.{decLt, ℕ-discrete}
+use borrow.Author.Tests.{eq-eqb, ne-eqb}
+use lib.Dec.{eqb}
 use native.Mathlib.Omega.{arith}
 use Rattle.ring.specs.Searches.{orElse, least, greatest, every}
 
@@ -25,6 +28,21 @@ first false b h = h
 pub second : (a b : Bool) → (a && b) ≡ true → b ≡ true
 second true b h = h
 second false b h = absurd (true≢false (sym h))
+
+-- two tests that agree
+pub eqb-same : (a b c d : ℕ) → (a ≡ b → c ≡ d) → (c ≡ d → a ≡ b) → eqb a b ≡ eqb c d
+eqb-same a b c d to from = by-dec (ℕ-discrete a b)
+  where
+    by-dec : Dec (a ≡ b) → eqb a b ≡ eqb c d
+    by-dec (yes e) = rw (eq-eqb a b e, eq-eqb c d (to e))
+    by-dec (no n) = rw (ne-eqb a b n, ne-eqb c d (λ e. n (from e)))
+
+pub lt-or-ge : (a b : ℕ) → (a < b) ⊎ (b ≤ a)
+lt-or-ge a b = by-dec (decLt a b)
+  where
+    by-dec : Dec (a < b) → (a < b) ⊎ (b ≤ a)
+    by-dec (yes l) = inl l
+    by-dec (no n) = inr (omega (arith, lt-of-not-le n))
 
 -- ---- searches
 
@@ -94,3 +112,6 @@ module _ (p : ℕ → Bool) where
   unfolding every
   every-all zero f = refl
   every-all (suc n) f = both (every-all n (λ k l. f k (omega arith))) (f n (omega arith))
+
+  pub every-fails : (n k : ℕ) → k < n → p k ≡ false → every p n ≡ false
+  every-fails n k l e = by-false (λ h. true≢false (sym (every-at n h k l) ∙ e))

@@ -1,13 +1,15 @@
 -- Laws of vectors by their elements, and of what lent buffers hold.
 -- Assumes nothing.
 use mathlib.Core.Path.{_≡_, refl, sym, ap, _∙_}
-use mathlib.Core.List.{List, [], _∷_, _++_, append-nil, append-assoc}
-use Prim.Native.Nat.{ℕ, zero, suc, _+_, _-_, _≤_, _<_}
-use native.Mathlib.Nat.{not-suc-le-zero, le-of-suc-le-suc, zero-add, suc-add}
+use mathlib.Core.List.{List, [], _∷_, _++_, map, reverse, reverse-cons, append-nil, append-assoc}
+use Prim.Native.Nat.{ℕ, zero, suc, _+_, _-_, _≤_, _<_, _*_, _/_, _%_}
+use native.Mathlib.Nat.{not-suc-le-zero, le-of-suc-le-suc, zero-add, add-zero, suc-add, add-comm, zero-mul, suc-mul, div-eq-of-lt, mod-eq-of-lt, add-div-left, add-mod-left}
 use native.Mathlib.Numerals.{add-one}
 use native.Mathlib.Omega.{arith}
-use lib.ListN.{length, getD, drop, take, set, length-append, length-drop, length-set, drop-of-length-le, List·getD-append}
-use lib.Seq.{ext-getD, take-at, drop-at, drop-drop, getD-append-add, getD-drop}
+use lib.ListN.{length, getD, drop, take, set, length-append, length-drop, length-set, drop-of-length-le, List·getD-append, take-append-drop}
+use lib.Seq.{ext-getD, drop-cons, set-at, append-snoc, take-at, drop-at, drop-drop, drop-append-add, getD-append-add, getD-drop, getD-take, length-take-le, set-append-left, getD-set-same, getD-set-other}
+use native.Mathlib.Decide.{ℕ-discrete}
+use Rattle.ring.specs.Lists.{join}
 use Rattle.ring.specs.Vectors.{tabulate, inFront, filled, Filling}
 
 -- ---- tables
@@ -40,6 +42,26 @@ module _ {A : Type 0} where
   tabulate-add zero n f = simp zero-add
   tabulate-add (suc a) n f = simp suc-add (ap (λ (t : List A). f 0 ∷ t) (tabulate-add a n (λ k. f (suc k))))
 
+-- one element more, as a loop adds it
+pub tabulate-more : {A : Type 0} (n : ℕ) (f : ℕ → A) → tabulate (n + 1) f ≡ tabulate n f ++ (f n ∷ [])
+tabulate-more n f = rw (tabulate-add, add-zero)
+
+pub tabulate-snoc : {A : Type 0} (n : ℕ) (f : ℕ → A) → tabulate (suc n) f ≡ tabulate n f ++ (f n ∷ [])
+tabulate-snoc n f = ap (λ (m : ℕ). tabulate m f) (sym (add-one n)) ∙ tabulate-more n f
+
+pub reverse-tabulate : {A : Type 0} (n : ℕ) (f : ℕ → A) → reverse (tabulate n f) ≡ tabulate n (λ i. f (n - 1 - i))
+reverse-tabulate zero f = refl
+reverse-tabulate {A} (suc n) f =
+    let e : 0 ≡ suc n - 1 - n = omega arith in
+    reverse-cons (f 0) (tabulate n (λ k. f (suc k)))
+    ∙ ap (λ (t : List A). t ++ (f 0 ∷ [])) (reverse-tabulate n (λ k. f (suc k)) ∙ tabulate-cong n (λ i. f (suc (n - 1 - i))) (λ i. f (suc n - 1 - i)) (λ i l. ap f (omega arith)))
+    ∙ ap (λ (k : ℕ). tabulate n (λ i. f (suc n - 1 - i)) ++ (f k ∷ [])) e
+    ∙ sym (tabulate-snoc n (λ i. f (suc n - 1 - i)))
+
+pub map-tabulate : {A B : Type 0} (g : A → B) (n : ℕ) (f : ℕ → A) → map g (tabulate n f) ≡ tabulate n (λ i. g (f i))
+map-tabulate g zero f = refl
+map-tabulate {B} g (suc n) f = ap (λ (t : List B). g (f 0) ∷ t) (map-tabulate g n (λ k. f (suc k)))
+
 -- ---- a result in front, the further words kept
 
 module _ {A : Type 0} (new old : List A) where
@@ -61,6 +83,22 @@ module _ {A : Type 0} (new old : List A) where
   pub inFront-whole : length old ≤ length new → inFront new old ≡ new
   unfolding inFront
   inFront-whole l = rw (drop-of-length-le old l, append-nil)
+
+-- one word more in front
+pub inFront-more : {A : Type 0} (xs d : List A) (n : ℕ) (a : A) → length xs ≡ n → n < length d → set (inFront xs d) n a ≡ inFront (xs ++ (a ∷ [])) d
+unfolding inFront
+inFront-more xs d n a e h =
+    rw (e, length-append, e, add-one, drop-cons d n a h) (set-at xs (getD d n a) (drop (suc n) d) a n e ∙ sym (append-snoc xs a (drop (suc n) d)))
+
+-- a result in front of another that is no longer
+pub inFront-inFront : {A : Type 0} (new mid old : List A) → length mid ≤ length new → length mid ≤ length old → inFront new (inFront mid old) ≡ inFront new old
+unfolding inFront
+inFront-inFront {A} new mid old l m = ap (λ (t : List A). new ++ t) (by (length new) l)
+  where
+    by : (n : ℕ) → length mid ≤ n → drop n (mid ++ drop (length mid) old) ≡ drop n old
+    by n h =
+        let e : length mid + (n - length mid) ≡ n = omega arith in
+        rw (← e) (drop-append-add mid (drop (length mid) old) (n - length mid) ∙ drop-drop (n - length mid) (length mid) old)
 
 -- ---- a loop that writes a buffer from its front
 
@@ -86,6 +124,46 @@ module _ {A : Type 0} (f : ℕ → A) where
   -- what is not stored yet
   pub filled-rest : (j : ℕ) (d : List A) (i : ℕ) (z : A) → j ≤ i → getD (filled f j d) i z ≡ getD d i z
   filled-rest j d i z l = rw filled-front (inFront-old (tabulate j f) d i z (rw length-tabulate l))
+
+module _ {A : Type 0} (f : ℕ → A) (n : ℕ) (d : List A) (z : A) where
+  -- what is stored
+  pub filled-at : (i : ℕ) → i < n → getD (filled f n d) i z ≡ f i
+  filled-at i l = rw filled-front (inFront-new (tabulate n f) d i z (rw length-tabulate l) ∙ getD-tabulate n f i z l)
+
+  -- a buffer that holds the words already
+  pub filled-same : n ≤ length d → ((i : ℕ) → i < n → getD d i z ≡ f i) → d ≡ filled f n d
+  unfolding filled
+  filled-same l same =
+      sym (take-append-drop n d)
+      ∙ ap (λ (t : List A). t ++ drop n d) (is-tabulate n f z (take n d) (length-take-le n d l) (λ i h. getD-take n d i z h ∙ same i h))
+
+module _ {A : Type 0} (f g : ℕ → A) (n : ℕ) (d : List A) where
+  -- stored again
+  pub filled-filled : filled g n (filled f n d) ≡ filled g n d
+  unfolding filled
+  filled-filled = rw (drop-at (tabulate n f) (drop n d) n (length-tabulate n f))
+
+  -- one of the words stored again
+  pub filled-set : (i : ℕ) (v : A) → i < n → v ≡ g i → ((x : ℕ) → x < n → (x ≡ i → ⊥) → f x ≡ g x) → set (filled f n d) i v ≡ filled g n d
+  unfolding filled
+  filled-set i v l e same =
+      set-append-left (tabulate n f) (drop n d) i v (rw length-tabulate l)
+      ∙ ap (λ (t : List A). t ++ drop n d) (is-tabulate n g v (set (tabulate n f) i v) (simp (length-set, length-tabulate)) (λ x h. by-index x h (ℕ-discrete x i)))
+    where
+      by-index : (x : ℕ) → x < n → Dec (x ≡ i) → getD (set (tabulate n f) i v) x v ≡ g x
+      by-index x h (yes q) = rw (q, getD-set-same (tabulate n f) i v v (rw length-tabulate l)) e
+      by-index x h (no q) = getD-set-other (tabulate n f) i x v v q ∙ getD-tabulate n f x v h ∙ same x h q
+
+-- tables of one size, one after the other: the x-th word is word x % p of the (x / p)-th
+pub join-tables : {A B : Type 0} (p : ℕ) → 0 < p → (g : B → ℕ → A) (d : B) (ks : List B) → join (λ k. tabulate p (g k)) ks ≡ tabulate (length ks * p) (λ x. g (getD ks (x / p) d) (x % p))
+join-tables p h g d [] = rw zero-mul
+join-tables {A} p h g d (k ∷ ks) =
+    rw (suc-mul (length ks) p, add-comm (length ks * p) p, tabulate-add p (length ks * p))
+    (cc (
+      join-tables p h g d ks,
+      tabulate-cong p (g k) (λ x. g (getD (k ∷ ks) (x / p) d) (x % p)) (λ x l. rw (div-eq-of-lt l, mod-eq-of-lt l)),
+      tabulate-cong (length ks * p) (λ x. g (getD ks (x / p) d) (x % p)) (λ x. g (getD (k ∷ ks) ((p + x) / p) d) ((p + x) % p)) (λ x l. rw (add-div-left x h, add-mod-left p x, add-one (x / p))),
+    ))
 
 -- one store more
 pub filled-more : {A : Type 0} (f : ℕ → A) (j : ℕ) (d : List A) → j < length d → set (filled f j d) j (f j) ≡ filled f (j + 1) d

@@ -1,0 +1,9 @@
+-- Laws that several proofs cite.
+pub mod Checking
+pub mod Folding
+pub mod Shrinkage
+pub mod Turnings
+pub mod Leading
+pub mod Moving
+pub mod Gathering
+pub mod Building

@@ -1,0 +1,106 @@
+-- Laws of the refusals of lent maps.
+-- Assumes nothing.
+use Prim.Native.Nat.{ℕ, zero, suc, _*_, _≤_, _<_}
+use mathlib.Core.Path.{_≡_, refl, sym, ap, _∙_}
+use mathlib.Core.Bool.{Bool, true, false, or-true}
+use mathlib.Core.List.{List, [], _∷_, _++_}
+use native.Mathlib.Nat.{suc-ne-zero}
+use borrow.Author.Tests.{lt-ltb, le-ltb}
+use lib.Dec.{ltb}
+use lib.ListN.{length}
+use Rattle.ring.specs.Vectors.{inFront, filled}
+use Rattle.ring.specs.Refusals.{firstOf, outside}
+use Rattle.ring.specs.declared.Answer.{Answer}
+use Rattle.ring.specs.Laws.Vectors.{filled-front}
+use Rattle.ring.specs.Laws.Refusals.{onAccept-refused, onAccept-accepted, first-refused, first-later}
+use Rattle.ring.specs.Laws.Answers.{answered-refused, answered-accepted}
+use Rattle.diagonals.specs.declared.reading.Test.the-variants.{Refused, Is}
+use Rattle.diagonals.specs.Maps.{Diagonal, offsetAt, wellFormed}
+use Rattle.diagonals.specs.Setting.{pairWords, valueWords}
+use Rattle.diagonals.specs.Calls.{mapRefusals, mapRefusal, Judged, tested, MapWritten, indexesRefusal, Indexes, noRoom, secondRefusal}
+use Rattle.diagonals.specs.Laws.Maps.{formed-means, offsets-view}
+use Rattle.diagonals.specs.Laws.Words.{length-pairWords}
+
+module _ {slots count : ℕ} {pairs values : List ℕ} where
+  pub judged-refused : {r : ℕ} → suc r ≡ mapRefusal slots count pairs values → Judged slots count pairs values (suc r)
+  judged-refused {r} e = record { answer = e; inside = λ h. absurd (suc-ne-zero r h); formed = λ h. absurd (suc-ne-zero r h) }
+
+  pub judged-accepted : outside slots ≡ false → wellFormed slots count pairs values ≡ true → Judged slots count pairs values 0
+  judged-accepted a b = record { answer = rw (a, b); inside = λ h. a; formed = λ h. formed-means slots count pairs values b }
+
+-- a call that is lent a map and has further refusals
+module _ {slots count : ℕ} {pairs values : List ℕ} {r : ℕ} (j : Judged slots count pairs values r) (cs : List (Bool × ℕ)) where
+  pub then-refused : (r ≡ 0 → ⊥) → r ≡ firstOf (mapRefusals slots count pairs values ++ cs)
+  then-refused h = j .answer ∙ sym (first-refused (mapRefusals slots count pairs values) cs (λ z. h (j .answer ∙ z)))
+
+  pub then-later : r ≡ 0 → firstOf (mapRefusals slots count pairs values ++ cs) ≡ firstOf cs
+  then-later h = first-later (mapRefusals slots count pairs values) cs (suc-ne-zero 0, (suc-ne-zero 1, tt)) (sym (j .answer) ∙ h)
+
+-- an answer that is a truth, at a return
+pub tested-refused : (e : ℕ) (b : Bool) → (e ≡ 0 → ⊥) → Refused e ≡ tested e b
+tested-refused zero b h = absurd (h refl)
+tested-refused (suc e) b h = refl
+
+pub tested-accepted : (e : ℕ) (b : Bool) → e ≡ 0 → Is b ≡ tested e b
+tested-accepted e b h = rw h
+
+-- ---- maps that are written
+
+module _ (ds : List Diagonal) (pairs values : List ℕ) where
+  pub no-room-pairs : length pairs < 2 * length ds → noRoom ds pairs values ≡ true
+  no-room-pairs l = rw (length-pairWords, lt-ltb _ _ l)
+
+  pub no-room-values : length values < length (valueWords ds) → noRoom ds pairs values ≡ true
+  no-room-values l = rw (lt-ltb (length values) _ l) (or-true (ltb (length pairs) (length (pairWords ds))))
+
+  pub room-for : 2 * length ds ≤ length pairs → length (valueWords ds) ≤ length values → noRoom ds pairs values ≡ false
+  room-for l m = rw (length-pairWords, le-ltb _ _ l, le-ltb (length values) _ m)
+
+-- a refused call leaves the buffers as they were
+pub written-refused : {e r : ℕ} {ds : List Diagonal} {pairs values : List ℕ} → r ≡ e → (r ≡ 0 → ⊥) → MapWritten e ds pairs pairs values values (Answer.Refused r)
+written-refused {r = zero} e h = absurd (h refl)
+written-refused {r = suc r} e h = rw (← e) (record { answer = refl; pairs = refl; values = refl })
+
+-- an accepted one answers the number of pairs, and has the words of the map in front
+pub written-accepted : {e n : ℕ} {ds : List Diagonal} {pairs₀ pairs₁ values₀ values₁ : List ℕ} → e ≡ 0 → n ≡ length ds → pairs₁ ≡ inFront (pairWords ds) pairs₀ → values₁ ≡ inFront (valueWords ds) values₀ → MapWritten e ds pairs₀ pairs₁ values₀ values₁ (Answer.Is n)
+written-accepted e n p v = rw (e, n) (record { answer = refl; pairs = p; values = v })
+
+abbrev noRoomFor : ℕ → List ℕ → List (Bool × ℕ)
+noRoomFor count out = (ltb (length out) count, 12) ∷ []
+
+-- `indexes`: the map is refused, there is no room, the offsets are written
+module _ {slots count : ℕ} {pairs values old : List ℕ} {r : ℕ} (j : Judged slots count pairs values r) where
+  indexes-refused : {x : ℕ} → x ≡ indexesRefusal slots count pairs values old → (x ≡ 0 → ⊥) → Indexes slots count pairs values old old (Answer.Refused x)
+  indexes-refused q h =
+      record { answer = rw q (answered-refused _ count (λ z. h (q ∙ z))); out = sym (onAccept-refused _ _ _ (λ z. h (q ∙ z))) }
+
+  pub indexes-map-refused : (r ≡ 0 → ⊥) → Indexes slots count pairs values old old (Answer.Refused r)
+  indexes-map-refused h = indexes-refused (then-refused j (noRoomFor count old) h) h
+
+  pub indexes-no-room : r ≡ 0 → length old < count → Indexes slots count pairs values old old (Answer.Refused 12)
+  indexes-no-room z l = indexes-refused (sym (then-later j (noRoomFor count old) z ∙ rw (lt-ltb _ _ l))) (suc-ne-zero 11)
+
+  pub indexes-written : {new : List ℕ} → r ≡ 0 → count ≤ length old → new ≡ filled (offsetAt pairs) count old → Indexes slots count pairs values old new (Answer.Is count)
+  indexes-written z l e =
+      let q : indexesRefusal slots count pairs values old ≡ 0 = then-later j (noRoomFor count old) z ∙ rw (le-ltb _ _ l) in
+      record {
+        answer = answered-accepted _ count q;
+        out = e ∙ filled-front (offsetAt pairs) count old ∙ ap (λ (l : List ℕ). inFront l old) (sym (offsets-view count pairs values)) ∙ sym (onAccept-accepted _ _ _ q);
+      }
+
+-- a call that is lent a map and writes another: the map is refused, there is no room, the other is written
+module _ {slots count : ℕ} {pairs values : List ℕ} {r : ℕ} (j : Judged slots count pairs values r) (ds : List Diagonal) (pairs₂ values₂ : List ℕ) where
+  abbrev room : List (Bool × ℕ)
+  room = (noRoom ds pairs₂ values₂, 12) ∷ []
+
+  abbrev Second : List ℕ → List ℕ → Answer → Type 0
+  Second p v a = MapWritten (secondRefusal slots count pairs values ds pairs₂ values₂) ds pairs₂ p values₂ v a
+
+  pub second-map-refused : (r ≡ 0 → ⊥) → Second pairs₂ values₂ (Answer.Refused r)
+  second-map-refused h = written-refused (then-refused j room h) h
+
+  pub second-no-room : r ≡ 0 → noRoom ds pairs₂ values₂ ≡ true → Second pairs₂ values₂ (Answer.Refused 12)
+  second-no-room z e = written-refused (sym (then-later j room z ∙ rw e)) (suc-ne-zero 11)
+
+  pub second-written : {p v : List ℕ} {n : ℕ} → r ≡ 0 → noRoom ds pairs₂ values₂ ≡ false → n ≡ length ds → p ≡ inFront (pairWords ds) pairs₂ → v ≡ inFront (valueWords ds) values₂ → Second p v (Answer.Is n)
+  second-written z e k a b = written-accepted (then-later j room z ∙ rw e) k a b

@@ -1,0 +1,190 @@
+-- Laws of slot maps: the product of the built map is the slot map's sum, whatever the terms are; its diagonals rise, lie
+-- below slots and have period values; its words.
+-- Assumes nothing.
+use Prim.Native.Nat.{ℕ, zero, suc, _+_, _*_, _%_, _≤_, _<_, _∣_}
+use mathlib.Core.Path.{_≡_, refl, sym, ap, _∙_}
+use mathlib.Core.Bool.{Bool, true, false, cond, _&&_, _||_, or-true, or-assoc}
+use mathlib.Core.List.{List, [], _∷_, _++_, map}
+use native.Mathlib.Nat.{not-suc-le-zero, le-of-suc-le-suc, zero-mod, mod-eq-of-lt, add-mul-mod-self-right}
+use native.Mathlib.Numerals.{add-one}
+use borrow.Author.Tests.{eq-eqb, eqb-true}
+use lib.Dec.{eqb}
+use lib.IntN.{ℤ, pos, _+ℤ_, _-ℤ_, +ℤ-comm, -ℤ-+ℤ-cancel, +ℤ-assoc}
+use lib.ListN.{length, getD, take, length-map}
+use lib.Seq.{take-suc}
+use Rattle.ring.specs.Slots.{modulus, mulm}
+use Rattle.ring.specs.Lists.{sumBy, join, Each, Rising}
+use Rattle.ring.specs.Vectors.{tabulate}
+use Rattle.ring.specs.Residues.{residueOf}
+use Rattle.ring.specs.Searches.{below}
+use Rattle.ring.specs.Laws.Slots.{mulm-comm, mulm-mod, zero-mulm}
+use Rattle.ring.specs.Laws.Lists.{each-all, each-then, each-map, each-both, sumBy-cong, sumBy-each, sumBy-map, sumBy-scale, sumBy-exchange, join-map, length-join}
+use Rattle.ring.specs.Laws.Vectors.{length-tabulate, getD-tabulate, join-tables}
+use Rattle.ring.specs.Laws.Residues.{residue-add, residue-pos, residue-lt}
+use Rattle.ring.specs.Laws.Below.{below-low, below-rising, sum-below-one}
+use Rattle.diagonals.specs.Maps.{Diagonal}
+use Rattle.diagonals.specs.Products.{cell, term, product}
+use Rattle.diagonals.specs.Setting.{pairWords, valueWords}
+use Rattle.diagonals.specs.SlotMaps.{Term, termsOf, offsetOf, reached, weight, gathered, slotMap, slotSum}
+use Rattle.diagonals.specs.SlotSteps.{rank, pairsAt, sumAt}
+use Rattle.diagonals.specs.Laws.Words.{FormedMap}
+
+-- ---- the terms of three lists
+
+abbrev pub termAt : List ℕ → List ℕ → List ℕ → ℕ → Term
+termAt is js ws t = record { i = getD is t 0; j = getD js t 0; w = getD ws t 0 }
+
+module _ (is js ws : List ℕ) where
+  pub length-terms : length (termsOf is js ws) ≡ length is
+  unfolding termsOf
+  length-terms = length-tabulate (length is) (termAt is js ws)
+
+  pub term-at : (t : ℕ) (d : Term) → t < length is → getD (termsOf is js ws) t d ≡ termAt is js ws t
+  unfolding termsOf
+  term-at t d l = getD-tabulate (length is) (termAt is js ws) t d l
+
+-- ---- which diagonals are reached
+
+module _ (slots : ℕ) where
+  pub reached-append : (xs ys : List Term) (k : ℕ) → reached slots (xs ++ ys) k ≡ (reached slots xs k || reached slots ys k)
+  reached-append [] ys k = refl
+  reached-append (x ∷ xs) ys k = rw (reached-append xs ys k) (sym (or-assoc (eqb (offsetOf slots x) k) (reached slots xs k) (reached slots ys k)))
+
+  -- one term more
+  pub reached-more : (ts : List Term) (t k : ℕ) (d : Term) → t < length ts → reached slots (take (t + 1) ts) k ≡ (reached slots (take t ts) k || (eqb (offsetOf slots (getD ts t d)) k || false))
+  reached-more ts t k d l = rw (add-one, take-suc ts t d l) (reached-append (take t ts) (getD ts t d ∷ []) k)
+
+  -- each term reaches its diagonal
+  pub reached-at : (ts : List Term) (t : ℕ) (d : Term) → t < length ts → reached slots ts (offsetOf slots (getD ts t d)) ≡ true
+  reached-at [] t d l = absurd (not-suc-le-zero l)
+  reached-at (x ∷ ts) zero d l = rw (eq-eqb (offsetOf slots x) (offsetOf slots x) refl)
+  reached-at (x ∷ ts) (suc t) d l = rw (reached-at ts t d (le-of-suc-le-suc l)) (or-true (eqb (offsetOf slots x) (offsetOf slots (getD ts t d))))
+
+  reached-each : (ts : List Term) → Each (λ t. reached slots ts (offsetOf slots t) ≡ true) ts
+  reached-each [] = tt
+  reached-each (x ∷ ts) =
+      (rw (eq-eqb (offsetOf slots x) (offsetOf slots x) refl), each-then (λ t h. rw h (or-true (eqb (offsetOf slots x) (offsetOf slots t)))) ts (reached-each ts))
+
+-- ---- the map
+
+module _ (slots period : ℕ) (ts : List Term) where
+  -- the offsets of the map
+  abbrev pub offsets : List ℕ
+  offsets = below (reached slots ts) slots
+
+  pub slotMap-count : length (slotMap slots period ts) ≡ rank (reached slots ts) slots
+  unfolding slotMap
+  slotMap-count = length-map offsets (gathered slots period ts)
+
+  offsets-of : (ks : List ℕ) → map (λ (d : Diagonal). d .offset) (map (gathered slots period ts) ks) ≡ ks
+  offsets-of [] = refl
+  offsets-of (k ∷ ks) = ap (λ (t : List ℕ). k ∷ t) (offsets-of ks)
+
+  -- offsets rise
+  pub slotMap-rising : Rising (map (λ (d : Diagonal). d .offset) (slotMap slots period ts))
+  unfolding slotMap
+  slotMap-rising = rw (offsets-of offsets) (below-rising (reached slots ts) slots)
+
+  -- and are below slots
+  pub slotMap-low : Each (λ d. d .offset < slots) (slotMap slots period ts)
+  unfolding slotMap
+  slotMap-low = each-map (λ d. d .offset < slots) (gathered slots period ts) offsets (below-low (reached slots ts) slots)
+
+  -- each diagonal has period values
+  pub slotMap-period : Each (λ d. length (d .values) ≡ period) (slotMap slots period ts)
+  unfolding slotMap
+  slotMap-period = each-map (λ d. length (d .values) ≡ period) (gathered slots period ts) offsets (each-all (λ k. length-tabulate period (λ p. sumBy modulus (weight slots k p) ts)) offsets)
+
+  -- so it is well formed where the period divides slots
+  pub slotMap-formed : 1 ≤ period → period ∣ slots → FormedMap slots (slotMap slots period ts)
+  slotMap-formed h d =
+      record {
+        each = each-both (λ x l e. record { low = l; some = rw e h; divides = rw e d }) (slotMap slots period ts) slotMap-low slotMap-period;
+        rising = slotMap-rising;
+      }
+
+  -- ---- its words
+
+  pairs-of : (ks : List ℕ) → join (λ k. k ∷ length (tabulate period (λ p. sumBy modulus (weight slots k p) ts)) ∷ []) ks ≡ pairsAt period ks
+  pairs-of [] = refl
+  pairs-of (k ∷ ks) = rw (length-tabulate period (λ p. sumBy modulus (weight slots k p) ts), pairs-of ks)
+
+  pub slotMap-pairs : pairWords (slotMap slots period ts) ≡ pairsAt period offsets
+  unfolding slotMap pairWords
+  slotMap-pairs = join-map (gathered slots period ts) (λ d. d .offset ∷ length (d .values) ∷ []) offsets ∙ pairs-of offsets
+
+  pub slotMap-values : 0 < period → valueWords (slotMap slots period ts) ≡ tabulate (rank (reached slots ts) slots * period) (sumAt slots period offsets ts)
+  unfolding slotMap valueWords
+  slotMap-values h =
+      join-map (gathered slots period ts) (λ d. d .values) offsets
+      ∙ join-tables period h (λ k p. sumBy modulus (weight slots k p) ts) 0 offsets
+
+pub length-pairs : (period : ℕ) (ks : List ℕ) → length (pairsAt period ks) ≡ length ks * 2
+length-pairs period ks = length-join (λ k. k ∷ period ∷ []) 2 (λ k. refl) ks
+
+-- ---- the product
+
+-- i + s + (j - i) is j + s
+shift : (i j s : ℕ) → pos (i + s) +ℤ (pos j -ℤ pos i) ≡ pos (j + s)
+shift i j s =
+    ap (λ (x : ℕ). pos x +ℤ (pos j -ℤ pos i)) (native.Mathlib.Nat.add-comm i s)
+    ∙ +ℤ-assoc (pos s) (pos i) (pos j -ℤ pos i)
+    ∙ ap (λ (z : ℤ). pos s +ℤ z) (+ℤ-comm (pos i) (pos j -ℤ pos i) ∙ -ℤ-+ℤ-cancel (pos j) (pos i))
+    ∙ +ℤ-comm (pos s) (pos j)
+
+module _ (slots period : ℕ) (ts : List Term) (input : List ℕ) (i q : ℕ) (p : 0 < slots) (l : i < period) where
+  -- the slot that a diagonal reads
+  abbrev reads : ℕ → ℕ
+  reads k = getD input ((i + q * period + k) % slots) 0
+
+  -- a term's part of the sum
+  abbrev part : Term → ℕ
+  part t = cond (eqb (t .i) i) (mulm modulus (t .w) (reads (offsetOf slots t))) 0
+
+  cell-is : (k : ℕ) → cell (gathered slots period ts k .values) (i + q * period) ≡ sumBy modulus (weight slots k i) ts
+  cell-is k =
+      ap (λ (n : ℕ). getD (gathered slots period ts k .values) ((i + q * period) % n) 0) (length-tabulate period (λ x. sumBy modulus (weight slots k x) ts))
+      ∙ ap (λ (n : ℕ). getD (gathered slots period ts k .values) n 0) (add-mul-mod-self-right i q period ∙ mod-eq-of-lt l)
+      ∙ getD-tabulate period (λ x. sumBy modulus (weight slots k x) ts) i 0 l
+
+  -- a term counts at its own diagonal alone
+  at-own : (t : Term) (k : ℕ) (a b : Bool) → eqb (offsetOf slots t) k ≡ a → eqb (t .i) i ≡ b → mulm modulus (reads k) (cond (a && b) (t .w) 0) ≡ cond a (cond b (mulm modulus (t .w) (reads (offsetOf slots t))) 0) 0
+  at-own t k true true e f = rw (eqb-true (offsetOf slots t) k e) (mulm-comm modulus (reads k) (t .w))
+  at-own t k true false e f = mulm-comm modulus (reads k) 0 ∙ zero-mulm modulus (reads k)
+  at-own t k false b e f = mulm-comm modulus (reads k) 0 ∙ zero-mulm modulus (reads k)
+
+  part-mod : (t : Term) (b : Bool) → cond b (mulm modulus (t .w) (reads (offsetOf slots t))) 0 % modulus ≡ cond b (mulm modulus (t .w) (reads (offsetOf slots t))) 0
+  part-mod t true = mulm-mod modulus (t .w) (reads (offsetOf slots t))
+  part-mod t false = zero-mod modulus
+
+  -- the sum over the diagonals is that of the term's own
+  over-diagonals : (t : Term) → reached slots ts (offsetOf slots t) ≡ true → sumBy modulus (λ k. mulm modulus (reads k) (weight slots k i t)) (offsets slots period ts) ≡ part t
+  over-diagonals t h =
+      sumBy-cong modulus (λ k. mulm modulus (reads k) (weight slots k i t)) (λ k. cond (eqb (offsetOf slots t) k) (part t) 0) (λ k. at-own t k (eqb (offsetOf slots t) k) (eqb (t .i) i) refl refl) (offsets slots period ts)
+      ∙ sum-below-one modulus (reached slots ts) (offsetOf slots t) (part t) slots (residue-lt (pos (t .j) -ℤ pos (t .i)) slots p) h
+      ∙ part-mod t (eqb (t .i) i)
+
+  -- where i is the term's, its own diagonal reads j + q·period
+  own-reads : (t : Term) (b : Bool) → eqb (t .i) i ≡ b → cond b (mulm modulus (t .w) (reads (offsetOf slots t))) 0 ≡ cond b (mulm modulus (t .w) (getD input ((t .j + q * period) % slots) 0)) 0
+  own-reads t true e =
+      ap (λ (x : ℕ). mulm modulus (t .w) (getD input x 0))
+      (ap (λ (x : ℕ). (x + q * period + offsetOf slots t) % slots) (sym (eqb-true (t .i) i e))
+      ∙ sym (residue-add (t .i + q * period) (pos (t .j) -ℤ pos (t .i)) slots p)
+      ∙ ap (λ (z : ℤ). residueOf z slots) (shift (t .i) (t .j) (q * period))
+      ∙ residue-pos (t .j + q * period) slots p)
+  own-reads t false e = refl
+
+  -- the product of the built map is the slot map's sum
+  pub slotMap-product : product modulus slots (slotMap slots period ts) input (i + q * period) ≡ slotSum slots period ts input i q
+  unfolding product slotMap slotSum
+  slotMap-product =
+      sumBy-map modulus (gathered slots period ts) (term modulus slots input (i + q * period)) (offsets slots period ts)
+      ∙ sumBy-cong modulus (λ k. term modulus slots input (i + q * period) (gathered slots period ts k)) (λ k. sumBy modulus (λ t. mulm modulus (reads k) (weight slots k i t)) ts)
+      (λ k.
+      ap (λ (x : ℕ). mulm modulus x (reads k)) (cell-is k)
+      ∙ mulm-comm modulus (sumBy modulus (weight slots k i) ts) (reads k)
+      ∙ sym (sumBy-scale modulus (reads k) (weight slots k i) ts))
+      (offsets slots period ts)
+      ∙ sumBy-exchange modulus (λ k t. mulm modulus (reads k) (weight slots k i t)) (offsets slots period ts) ts
+      ∙ sumBy-each modulus (λ t. sumBy modulus (λ k. mulm modulus (reads k) (weight slots k i t)) (offsets slots period ts)) (λ t. cond (eqb (t .i) i) (mulm modulus (t .w) (getD input ((t .j + q * period) % slots) 0)) 0) ts
+      (each-then (λ t h. over-diagonals t h ∙ own-reads t (eqb (t .i) i) refl) ts (reached-each slots ts))

@@ -1,0 +1,111 @@
+// All diagonals at one period, the smallest that serves them all.
+ghost use mathlib.Core.Path.{_≡_};
+ghost use Prim.Native.Nat.{_*_, _≤_};
+ghost use lib.ListN.{length};
+ghost use Rattle.ring.specs.Divisors.{lcmOf};
+ghost use Rattle.ring.specs.Periods.{minPeriod};
+ghost use Rattle.diagonals.specs.Maps.{view, WellFormed};
+ghost use Rattle.diagonals.specs.Shrinking.{shrunk};
+ghost use Rattle.diagonals.specs.Calls.{secondRefusal, MapWritten};
+ghost use Rattle.diagonals.specs.Steps.{Range, Common, Shrinking, Shrunk};
+
+// The smallest period of a stored one, which `min_period` does not refuse.
+fn smallest(v: &[u64]) -> usize
+    requires { ⌜ Range (length (now v)) ⌝ }
+    ensures { λ r. ⌜ r ≡ minPeriod (now (v .entry)) ⌝ }
+{
+    let ring::Answer::Is(p) = ring::min_period(v) else {
+        return 0;
+    };
+    p
+}
+
+// The common period of two, which `period_lcm` does not refuse.
+fn common(a: usize, b: usize) -> usize
+    requires { ⌜ Range a ⌝ }
+    requires { ⌜ Range b ⌝ }
+    ensures { λ r. ⌜ r ≡ lcmOf a b ⌝ }
+{
+    let ring::Answer::Is(p) = ring::period_lcm(a, b) else {
+        return 0;
+    };
+    p
+}
+
+fn common_period(slots: usize, count: usize, pairs: &[u32], values: &[u64]) -> usize
+    requires { ⌜ Range slots ⌝ }
+    requires { ⌜ WellFormed slots count (now pairs) (now values) ⌝ }
+    ensures { λ r. ⌜ Common (view count (now (pairs .entry)) (now (values .entry))) r ⌝ }
+{
+    let mut period = 1;
+    let mut start = 0;
+    let mut i = 0;
+    while i < count {
+        let at = 2 * i;
+        let end = start + ring::wide(pairs[at + 1]);
+        period = common(period, smallest(&values[start..end]));
+        start = end;
+        i += 1;
+    }
+    period
+}
+
+fn write_shrunk(
+    slots: usize,
+    count: usize,
+    pairs: &[u32],
+    values: &[u64],
+    period: usize,
+    pairs_out: &mut [u32],
+    values_out: &mut [u64],
+)
+    requires { ⌜ Shrinking slots count (now pairs) (now values) period (now «pairs_out») (now «values_out») ⌝ }
+    ensures { λ _. ⌜ Shrunk count (now (pairs .entry)) (now (values .entry)) period (now («pairs_out» .entry)) (now («pairs_out» .exit)) (now («values_out» .entry)) (now («values_out» .exit)) ⌝ }
+{
+    let mut start = 0;
+    let mut at = 0;
+    let mut i = 0;
+    while i < count {
+        let p = 2 * i;
+        let end = start + ring::wide(pairs[p + 1]);
+        crate::append(
+            &values[start..end],
+            0,
+            pairs[p],
+            period,
+            i,
+            at,
+            pairs_out,
+            values_out,
+        );
+        start = end;
+        at += period;
+        i += 1;
+    }
+}
+
+// Stores every diagonal at the least common multiple of their smallest periods, into a second map.
+pub fn shrink_period(
+    slots: usize,
+    count: usize,
+    pairs: &[u32],
+    values: &[u64],
+    pairs_out: &mut [u32],
+    values_out: &mut [u64],
+) -> ring::Answer
+    ensures { λ r. ⌜ MapWritten (secondRefusal slots count (now (pairs .entry)) (now (values .entry)) (shrunk (view count (now (pairs .entry)) (now (values .entry)))) (now («pairs_out» .entry)) (now («values_out» .entry))) (shrunk (view count (now (pairs .entry)) (now (values .entry)))) (now («pairs_out» .entry)) (now («pairs_out» .exit)) (now («values_out» .entry)) (now («values_out» .exit)) r ⌝ }
+{
+    let code = crate::map_refusal(slots, count, pairs, values);
+    if code != 0 {
+        return ring::Answer::Refused(code);
+    }
+    let period = common_period(slots, count, pairs, values);
+    if pairs_out.len() / 2 < count {
+        return ring::Answer::Refused(12);
+    }
+    if values_out.len() / period < count {
+        return ring::Answer::Refused(12);
+    }
+    write_shrunk(slots, count, pairs, values, period, pairs_out, values_out);
+    ring::Answer::Is(count)
+}

@@ -1,0 +1,2 @@
+-- Definitions, in the order of document 01.
+pub mod Strategies

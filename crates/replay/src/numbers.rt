@@ -1,0 +1,33 @@
+// The words of a call as other numbers.
+ghost use Prim.Native.Nat.{_≤_};
+ghost use lib.ListN.{length};
+
+// The i64 whose two's complement is w.
+pub(crate) fn signed(w: u64) -> i64 {
+    if w < 0x8000_0000_0000_0000 {
+        return w as i64;
+    }
+    -1 - ((0xffff_ffff_ffff_ffff - w) as i64)
+}
+
+pub(crate) fn narrow(w: u64) -> u32 {
+    (w % 0x1_0000_0000) as u32
+}
+
+// The words modulo 2^32, in front of out.
+pub(crate) fn narrow_into(words: &[u64], out: &mut [u32])
+    requires { ⌜ length (now words) ≤ length (now out) ⌝ }
+{
+    for i in 0..words.len() {
+        out[i] = narrow(words[i]);
+    }
+}
+
+// The words, in front of out.
+pub(crate) fn copy_into(words: &[u64], out: &mut [u64])
+    requires { ⌜ length (now words) ≤ length (now out) ⌝ }
+{
+    for i in 0..words.len() {
+        out[i] = words[i];
+    }
+}

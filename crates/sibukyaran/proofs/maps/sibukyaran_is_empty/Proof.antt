@@ -1,0 +1,25 @@
+-- `sibukyaran::maps::sibukyaran_is_empty` meets its contract. Assumes nothing.
+use mathlib.Core.Path.{ap, _∙_}
+use Rattle.diagonals.specs.Calls.{truths}
+use borrow.Author.Needs.{needs}
+use Rattle.sibukyaran.proofs.maps.sibukyaran_is_empty.Statement.{statement}
+use Rattle.sibukyaran.proofs.maps.sibukyaran_is_empty.Tie as tie
+use Rattle.sibukyaran.proofs.maps.sibukyaran_is_empty.Reads as reads
+use Rattle.sibukyaran.proofs.maps.sibukyaran_is_empty.Lts as lts
+use Rattle.diagonals.proofs.is_empty.Reads as is-empty-reads
+use Rattle.sibukyaran.proofs.truth_of.Reads as truth-of-reads
+
+-- src/maps.rt:36:21
+is-empty-requires : tie.Need-is-empty-requires
+is-empty-requires c κs = search needs
+
+-- src/maps.rt:36:5
+truth-of-requires : tie.Need-truth-of-requires
+truth-of-requires c κs = search needs
+
+-- src/maps.rt:32:1
+returns : tie.Need-returns
+returns c = c .truth-of .ensures ∙ ap truths (c .before .is-empty .ensures)
+
+pub sibukyaran-is-empty-spec : {M : Type 1} → statement M
+sibukyaran-is-empty-spec = tie.close (tie.spec is-empty-requires truth-of-requires returns)
