@@ -26,6 +26,12 @@ struct sibukyaran_truth {
     bool value;
 };
 
+/* A digit beside a refusal; 0 where refused. */
+struct sibukyaran_signed_digit {
+    uint32_t refusal;
+    int64_t value;
+};
+
 /* a * b modulo 2^64. */
 uint64_t sibukyaran_wrapping_mul(uint64_t a, uint64_t b);
 
@@ -118,6 +124,18 @@ uint32_t sibukyaran_evaluate_bsgs_powers_of_two(size_t slots, size_t count, cons
 uint32_t sibukyaran_evaluate_direct(size_t slots, size_t count, const uint32_t *pairs, size_t pairs_len,
                                     const uint64_t *values, size_t values_len, const uint64_t *input, size_t input_len,
                                     uint64_t *out, size_t out_len);
+
+/* ---- Plans. */
+
+/* The residue of a diagonal index modulo slots. 1: slots. */
+struct sibukyaran_numbers sibukyaran_normalize_linear_transform_diagonal(int64_t diagonal, size_t slots);
+
+/* k of the baby rotation k * baby_step. 3: the step. 9: the baby is negative, above 65535 or no multiple of the step. */
+struct sibukyaran_numbers sibukyaran_baby_multiple(int64_t baby, size_t baby_step);
+
+/* j of the giant rotation j * giant_step; where the step divides slots, the j of least magnitude, half the period being
+ * negative. 1: slots. 3: the step. 10: the rotation's residue is no multiple of the step. */
+struct sibukyaran_signed_digit sibukyaran_giant_digit(int64_t rot, size_t giant_step, size_t slots);
 
 #ifdef __cplusplus
 }

@@ -1,8 +1,9 @@
 -- Document 01, "Bench examples": statements about the definitions, in one list that is proved as a whole.
 -- Assumes nothing.
-use Prim.Native.Nat.{ℕ, _^_}
+use Prim.Native.Nat.{ℕ, _-_, _^_}
 use mathlib.Core.Path.{_≡_}
-use mathlib.Core.List.{List, [], _∷_}
+use mathlib.Core.List.{List, [], _∷_, map}
+use lib.IntN.{pos, negℤ}
 use Rattle.ring.specs.Slots.{modulus, mulm}
 use Rattle.ring.specs.Divisors.{lcmOf}
 use Rattle.ring.specs.Periods.{minPeriod}
@@ -11,6 +12,9 @@ use Rattle.diagonals.specs.Maps.{Diagonal}
 use Rattle.diagonals.specs.Products.{product}
 use Rattle.diagonals.specs.SlotMaps.{termsOf, slotMap}
 use Rattle.diagonals.specs.Transposing.{transposed}
+use Rattle.linear_transformation.specs.declared.digits.Rot.{Rot}
+use Rattle.linear_transformation.specs.Plans.{diagonalsOf, babies, giants, babiesAt, planWords}
+use Rattle.linear_transformation.specs.Digits.{digit, bitsOf, levelRotation}
 
 -- a diagonal by its offset and values
 abbrev pub at : ℕ → List ℕ → Diagonal
@@ -20,10 +24,29 @@ at offset values = record { offset = offset; values = values }
 abbrev pub e3Map : List Diagonal
 e3Map = slotMap 4 2 (termsOf (0 ∷ 0 ∷ 1 ∷ []) (1 ∷ 1 ∷ 0 ∷ []) (5 ∷ 7 ∷ 2 ∷ []))
 
+-- the diagonals of E6, of 16 slots
+abbrev pub e6Diagonals : List ℕ
+e6Diagonals = diagonalsOf 16 (pos 0 ∷ pos 1 ∷ pos 2 ∷ pos 5 ∷ pos 15 ∷ [])
+
+abbrev pub rotation : ℕ → Rot
+rotation n = record { 0 = n }
+
+-- the rotation of the top level of the tree of these giants
+abbrev pub topRotation : ℕ → ℕ → List Rot → Rot
+topRotation slots step giants =
+    let b = bitsOf (map (digit slots step) giants) in
+    levelRotation slots step b (b - 1)
+
 pub record BenchExamples : Type 0 where
   pub e1 : lcmOf 4 6 ≡ 12
   pub e2 : minPeriod (1 ∷ 2 ∷ 1 ∷ 2 ∷ 1 ∷ 2 ∷ []) ≡ 2
   pub e3 : e3Map ≡ at 1 (12 ∷ 0 ∷ []) ∷ at 3 (0 ∷ 2 ∷ []) ∷ []
   pub e4 : tabulate 4 (product modulus 4 e3Map (1 ∷ 2 ∷ 3 ∷ 4 ∷ [])) ≡ 24 ∷ 2 ∷ 48 ∷ 6 ∷ []
   pub e5 : transposed 4 e3Map ≡ at 1 (2 ∷ 0 ∷ []) ∷ at 3 (0 ∷ 12 ∷ []) ∷ []
+  pub e6-babies : babies 16 4 e6Diagonals ≡ 0 ∷ 1 ∷ 2 ∷ 3 ∷ []
+  pub e6-giants : giants 16 4 e6Diagonals ≡ 0 ∷ 4 ∷ 12 ∷ []
+  pub e6-index : map (babiesAt 4 e6Diagonals) (giants 16 4 e6Diagonals) ≡ (0 ∷ 1 ∷ 2 ∷ []) ∷ (1 ∷ []) ∷ (3 ∷ []) ∷ []
+  pub e8 : (digit 16 4 (rotation 8) .0 ≡ negℤ (pos 2)) × (digit 10 4 (rotation 8) .0 ≡ pos 2)
+  pub e8-top : (digit 20 4 (rotation 12) .0 ≡ negℤ (pos 2)) × (topRotation 20 4 (rotation 12 ∷ []) ≡ rotation 12)
+  pub e10-plan : planWords 16 4 (diagonalsOf 16 []) ≡ 0 ∷ []
   pub e12 : mulm modulus (2 ^ 63) 2 ≡ 0

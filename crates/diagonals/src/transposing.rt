@@ -1,6 +1,6 @@
 // The transposed matrix.
 ghost use mathlib.Core.Path.{_≡_};
-ghost use mathlib.Core.Bool.{_&&_};
+ghost use mathlib.Core.Bool.{true, _&&_};
 ghost use Prim.Native.Nat.{_*_, _≤_, _<_};
 ghost use lib.Dec.{eqb, ltb};
 ghost use lib.ListN.{length};
@@ -90,7 +90,8 @@ fn leads_with_zero(count: usize, pairs: &[u32]) -> bool
     pairs[0] == 0
 }
 
-fn write_transposed(
+// The map whose first diagonal has offset 0: that one first, then the others.
+fn write_behind_zero(
     slots: usize,
     count: usize,
     pairs: &[u32],
@@ -100,22 +101,9 @@ fn write_transposed(
     values_out: &mut [u64],
 )
     requires { ⌜ Transposing slots count (now pairs) (now values) total (now «pairs_out») (now «values_out») ⌝ }
+    requires { ⌜ (ltb 0 count && eqb (offsetAt (now pairs) 0) 0) ≡ true ⌝ }
     ensures { λ _. ⌜ Words (transposed slots (view count (now (pairs .entry)) (now (values .entry)))) (now («pairs_out» .entry)) (now («pairs_out» .exit)) (now («values_out» .entry)) (now («values_out» .exit)) ⌝ }
 {
-    if !leads_with_zero(count, pairs) {
-        write_rest(
-            slots,
-            count,
-            0,
-            pairs,
-            values,
-            total,
-            0,
-            pairs_out,
-            values_out,
-        );
-        return;
-    }
     let len = ring::wide(pairs[1]);
     append_turned(
         slots,
@@ -135,6 +123,35 @@ fn write_transposed(
         values,
         total,
         len,
+        pairs_out,
+        values_out,
+    );
+}
+
+fn write_transposed(
+    slots: usize,
+    count: usize,
+    pairs: &[u32],
+    values: &[u64],
+    total: usize,
+    pairs_out: &mut [u32],
+    values_out: &mut [u64],
+)
+    requires { ⌜ Transposing slots count (now pairs) (now values) total (now «pairs_out») (now «values_out») ⌝ }
+    ensures { λ _. ⌜ Words (transposed slots (view count (now (pairs .entry)) (now (values .entry)))) (now («pairs_out» .entry)) (now («pairs_out» .exit)) (now («values_out» .entry)) (now («values_out» .exit)) ⌝ }
+{
+    if leads_with_zero(count, pairs) {
+        write_behind_zero(slots, count, pairs, values, total, pairs_out, values_out);
+        return;
+    }
+    write_rest(
+        slots,
+        count,
+        0,
+        pairs,
+        values,
+        total,
+        0,
         pairs_out,
         values_out,
     );

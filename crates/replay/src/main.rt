@@ -2,6 +2,7 @@
 // for the comparison with the Rust's recorded answers (docs/SAMPLE.md has the format).
 mod map_calls;
 mod numbers;
+mod plan_calls;
 mod reading;
 mod ring_calls;
 mod showing;
@@ -18,6 +19,9 @@ fn show_call(code: u64, words: &[u64]) {
         9 => map_calls::show_slot_map(words),
         10 => map_calls::show_rotation(words),
         16 => map_calls::show_new(words),
+        17 => plan_calls::show_normal(words),
+        18 => plan_calls::show_multiple(words),
+        19 => plan_calls::show_digit(words),
         7 | 8 | 11 | 12 | 13 | 14 | 15 => map_calls::show_map_call(code, words),
         _ => {}
     }

@@ -15,12 +15,16 @@ use Rattle.diagonals.specs.Setting.{pairWords, valueWords}
 use Rattle.diagonals.specs.Calls.{mapRefusals, gotten, indexesRefusal}
 use Rattle.sibukyaran.specs.declared.Numbers.{Numbers}
 use Rattle.sibukyaran.specs.declared.Truth.{Truth}
+use Rattle.sibukyaran.specs.declared.SignedDigit.{SignedDigit}
 
 abbrev pub told : Numbers → ℕ × ℕ
 told r = (r .refusal, r .value)
 
 abbrev pub toldTruth : Truth → ℕ × Bool
 toldTruth r = (r .refusal, r .value)
+
+abbrev pub toldDigit : SignedDigit → ℕ × ℤ
+toldDigit r = (r .refusal, r .value)
 
 -- a call with refusal e that writes the map ds
 pub record MapTold (e : ℕ) (ds : List Diagonal) (pairs₀ pairs₁ values₀ values₁ : List ℕ) (r : Numbers) : Type 0 where

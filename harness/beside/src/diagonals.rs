@@ -139,6 +139,46 @@ pub fn any_map(random: &mut Random, slots: usize) -> Words {
     map
 }
 
+/// Every period of values 0 and 1 that a diagonal of so many slots can store.
+fn every_period(slots: usize) -> Vec<Vec<u64>> {
+    let vectors = |n: usize| (0..1 << n).map(move |bits: u64| (0..n).map(|t| bits >> t & 1).collect());
+    divisors(slots).flat_map(vectors).collect()
+}
+
+/// Every map of so many slots over 0 and 1.
+pub fn every_map(slots: usize) -> Vec<Words> {
+    let mut all = vec![Words::new(slots)];
+    for k in 0..slots as i64 {
+        for i in 0..all.len() {
+            for period in every_period(slots) {
+                let mut map = all[i].clone();
+                map.set(k, wrapped(&period));
+                all.push(map);
+            }
+        }
+    }
+    all
+}
+
+/// Every list of up to two terms with weights 0, 1 and -1.
+fn every_terms(slots: usize, period: usize) -> Vec<Terms> {
+    let mut one = Vec::new();
+    for i in 0..period as u32 {
+        for j in 0..slots as u32 {
+            one.extend([0, 1, u64::MAX].map(|w| (i, j, w)));
+        }
+    }
+    let mut lists = vec![Vec::new()];
+    lists.extend(one.iter().map(|&t| vec![t]));
+    lists.extend(one.iter().flat_map(|&t| one.iter().map(move |&u| vec![t, u])));
+    let terms = |list: Vec<(u32, u32, u64)>| Terms {
+        is: list.iter().map(|t| t.0).collect(),
+        js: list.iter().map(|t| t.1).collect(),
+        ws: list.iter().map(|t| t.2).collect(),
+    };
+    lists.into_iter().map(terms).collect()
+}
+
 /// The slot counts of the random maps.
 fn slot_counts() -> impl Iterator<Item = usize> {
     (1..=400).chain([1_024, 4_096, 46_189, 59_049, 65_535, 65_536])
@@ -284,7 +324,61 @@ fn any_terms(random: &mut Random, slots: usize, period: usize, n: usize) -> Term
     terms
 }
 
+/// All maps over 0 and 1 of up to three slots, all slot maps of up to two terms.
+fn compare_all(tally: &mut Tally) {
+    let mut random = Random::new(11);
+    tally.run("get, set, shrink_period, transpose: all maps over 0 and 1 of up to 3 slots", |cases| {
+        for slots in 1..=3 {
+            for map in every_map(slots) {
+                let map = Stored::of(&map).longer(&mut random);
+                for index in -4..=4 {
+                    let (answer, stretch) = right_get(map.lent(), index);
+                    cases.same(|| format!("{map:?} {index}"), ours::period(map.lent(), index), answer);
+                    let mut lent = Lent::new(&stretch);
+                    let got = ours::get_into(map.lent(), index, lent.part());
+                    cases.same(|| format!("{map:?} {index}"), (got, lent.back()), (answer, (stretch, true)));
+                }
+                for new in every_period(slots) {
+                    let index = random.below(slots) as i64;
+                    let right = right_set(map.lent(), index, &new);
+                    let ours =
+                        written(&map.pairs, &map.values, |p, v| ours::set(map.slots, map.count, p, v, index, &new));
+                    cases.same(|| format!("{map:?} {index} {new:?}"), ours, (right, true));
+                }
+                for (result, call) in SECONDS.map(|(_, result, call)| (result, call)) {
+                    for (pairs, values) in buffers(&mut random, &result(map.lent())) {
+                        let right = right_written(0, || result(map.lent()), &pairs, &values);
+                        let ours = written(&pairs, &values, |p, v| call(map.lent(), p, v));
+                        cases.same(|| format!("{map:?}"), ours, (right, true));
+                    }
+                }
+            }
+        }
+    });
+    tally.run("from_slot_map: all lists of up to 2 terms of up to 3 slots", |cases| {
+        for slots in 1..=3 {
+            for period in divisors(slots) {
+                for terms in every_terms(slots, period) {
+                    for (p, v) in [(6, 9), (4, 2 * period), (3, 2 * period), (4, 2 * period - 1)] {
+                        let (pairs, values) = (vec![7; p], vec![7; v]);
+                        let right = right_from_slot_map(slots, period, &terms, &pairs, &values);
+                        let ours = written(&pairs, &values, |p, v| ours::from_slot_map(slots, period, &terms, p, v));
+                        cases.same(|| format!("{slots} {period} {terms:?}"), ours, (right, true));
+                    }
+                }
+            }
+        }
+    });
+}
+
+/// A call that writes a second map: its name, the Rust's result, ours.
+type Second = (&'static str, fn(Map) -> Stored, fn(Map, &mut [u32], &mut [u64]) -> Numbers);
+
+const SECONDS: [Second; 2] =
+    [("shrink_period", shrunk, ours::shrink_period), ("transpose", transposed, ours::transpose)];
+
 pub fn compare(tally: &mut Tally) {
+    compare_all(tally);
     let mut random = Random::new(4);
     tally.run("new: slots at and past the limits", |cases| {
         for slots in [0, 1, 2, 65_535, 65_536, 65_537, usize::MAX] {
@@ -449,9 +543,7 @@ pub fn compare(tally: &mut Tally) {
             }
         }
     });
-    let seconds: [(&str, fn(Map) -> Stored, fn(Map, &mut [u32], &mut [u64]) -> Numbers); 2] =
-        [("shrink_period", shrunk, ours::shrink_period), ("transpose", transposed, ours::transpose)];
-    for (name, result, call) in seconds {
+    for (name, result, call) in SECONDS {
         tally.run(&format!("{name}: random and damaged maps, buffers full, short and longer"), |cases| {
             for slots in slot_counts() {
                 for _ in 0..4 {
@@ -647,7 +739,7 @@ pub fn bench(bench: &mut Bench) {
     let words = |values: &[u64]| values.iter().fold(0u64, |s, &w| s.wrapping_add(w));
     let mut out = vec![0; slots];
     bench.pair(
-        "get, one of 511 diagonals of 65,536, values summed",
+        "get, one of 511 diagonals of 65,536, copied, summed",
         Some(1.0),
         || {
             ours::get_into(keep(stored.lent()), 128 * 255, &mut out);

@@ -5,6 +5,7 @@
 
 mod bench;
 mod diagonals;
+mod linear_transformation;
 mod ours;
 mod random;
 mod ring;
@@ -22,6 +23,7 @@ fn compare() -> ExitCode {
         let mut tally = tally::Tally::default();
         ring::compare(&mut tally);
         diagonals::compare(&mut tally);
+        linear_transformation::compare(&mut tally);
         runs::compare(&mut tally);
         sample::compare(&mut tally);
         tally.close()

@@ -27,6 +27,13 @@ pub struct Truth {
     pub value: bool,
 }
 
+#[repr(C)]
+#[derive(Clone, Copy, PartialEq, Eq, Debug)]
+pub struct SignedDigit {
+    pub refusal: u32,
+    pub value: i64,
+}
+
 /// A lent map.
 #[derive(Clone, Copy, Debug)]
 pub struct Map<'a> {
@@ -37,7 +44,7 @@ pub struct Map<'a> {
 }
 
 mod c {
-    use super::{Numbers, Truth};
+    use super::{Numbers, SignedDigit, Truth};
 
     unsafe extern "C" {
         pub safe fn sibukyaran_wrapping_mul(a: u64, b: u64) -> u64;
@@ -54,6 +61,9 @@ mod c {
         pub safe fn sibukyaran_period_lcm(a: usize, b: usize) -> Numbers;
         pub fn sibukyaran_min_period(v: *const u64, v_len: usize) -> Numbers;
         pub safe fn sibukyaran_new(slots: usize) -> Numbers;
+        pub safe fn sibukyaran_normalize_linear_transform_diagonal(diagonal: i64, slots: usize) -> Numbers;
+        pub safe fn sibukyaran_baby_multiple(baby: i64, baby_step: usize) -> Numbers;
+        pub safe fn sibukyaran_giant_digit(rot: i64, giant_step: usize, slots: usize) -> SignedDigit;
         pub fn sibukyaran_map_refusal(s: usize, c: usize, p: *const u32, pn: usize, v: *const u64, vn: usize) -> u32;
         pub fn sibukyaran_is_empty(s: usize, c: usize, p: *const u32, pn: usize, v: *const u64, vn: usize) -> Truth;
         pub fn sibukyaran_indexes(
@@ -338,4 +348,16 @@ impl<T: Copy + PartialEq + From<u32>> Lent<T> {
         let around = self.words[..GUARD].iter().chain(&self.words[end..]).all(|&w| w == Self::guard());
         (self.words[GUARD..end].to_vec(), around)
     }
+}
+
+pub fn normal(diagonal: i64, slots: usize) -> Numbers {
+    c::sibukyaran_normalize_linear_transform_diagonal(diagonal, slots)
+}
+
+pub fn baby_multiple(baby: i64, step: usize) -> Numbers {
+    c::sibukyaran_baby_multiple(baby, step)
+}
+
+pub fn giant_digit(rot: i64, step: usize, slots: usize) -> SignedDigit {
+    c::sibukyaran_giant_digit(rot, step, slots)
 }

@@ -5,7 +5,7 @@ use std::num::Wrapping;
 use poulpy_core::layouts::{Evaluate, LinearTransformationStrategy as Strategy};
 
 use crate::bench::{Bench, keep};
-use crate::diagonals::{Stored, any_map, map_words, right_map_refusal, rust_map, wide_map};
+use crate::diagonals::{Stored, any_map, every_map, map_words, right_map_refusal, rust_map, wide_map};
 use crate::ours::{self, Lent, Map};
 use crate::random::Random;
 use crate::sample::Sample;
@@ -47,6 +47,27 @@ fn any_strategy(random: &mut Random, slots: usize) -> Strategy {
 }
 
 pub fn compare(tally: &mut Tally) {
+    tally.run("evaluate: all maps and inputs over 0 and 1 of up to 3 slots, each strategy", |cases| {
+        for slots in 1..=3 {
+            for map in every_map(slots).iter().map(Stored::of) {
+                for bits in 0..1u64 << slots {
+                    let input: Vec<u64> = (0..slots).map(|t| bits >> t & 1).collect();
+                    for giant_step in 1..=slots + 1 {
+                        for strategy in
+                            [Strategy::Bsgs { giant_step }, Strategy::BsgsPowersOfTwo { giant_step }, Strategy::Direct]
+                        {
+                            let held = vec![7; slots + 1];
+                            let mut lent = Lent::new(&held);
+                            let refusal = ours::evaluate(map.lent(), &input, strategy, lent.part());
+                            let (right, words) = right_evaluate(map.lent(), &input, strategy, &held);
+                            let call = || format!("{map:?} {input:?} {strategy:?}");
+                            cases.same(call, (refusal, lent.back()), (right, (words, true)));
+                        }
+                    }
+                }
+            }
+        }
+    });
     let mut random = Random::new(7);
     tally.run("evaluate: random maps, each strategy, widths at and past slots, words behind kept", |cases| {
         for slots in (1..=400).chain([1_024, 4_096, 46_189, 65_535, 65_536]) {

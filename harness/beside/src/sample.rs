@@ -7,7 +7,7 @@ use std::path::PathBuf;
 use std::process::ExitCode;
 
 use crate::tally::Tally;
-use crate::{diagonals, ring, runs};
+use crate::{diagonals, linear_transformation, ring, runs};
 
 #[derive(Default)]
 pub struct Sample {
@@ -35,6 +35,7 @@ fn made() -> Sample {
     ring::sample(&mut sample);
     diagonals::sample(&mut sample);
     runs::sample(&mut sample);
+    linear_transformation::sample(&mut sample);
     assert!(sample.calls.len() <= LONGEST_TEXT, "the sample is too long: {} bytes", sample.calls.len());
     sample
 }

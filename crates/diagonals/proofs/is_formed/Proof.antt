@@ -40,13 +40,13 @@ returns : tie.Need-returns Inv-loop μ-loop
 returns c = fails-rise (c .before .before .before .before .loop .inv) (c .before .before .before .loop-test .taken) _ (c .if1 .taken)
 
 returns-2 : tie.Need-returns-2 Inv-loop μ-loop
-returns-2 c = fails-low (c .before .before .before .before .before .loop .inv) (c .before .before .before .before .loop-test .taken) _ (c .if2 .taken)
+returns-2 c = fails-low (c .before .before .before .before .before .loop .inv) (c .before .before .before .before .loop-test .taken) _ (omega (arith, c .if2 .taken))
 
 is-period-requires : tie.Need-is-period-requires Inv-loop μ-loop
 is-period-requires c κs = c .before .before .before .before .before .loop .inv .divisor
 
 returns-3 : tie.Need-returns-3 Inv-loop μ-loop
-returns-3 c = fails-len (c .before .before .before .before .before .before .before .loop .inv) (c .before .before .before .before .before .before .loop-test .taken) _ (c .before .before .if2 .left) (sym (c .before .is-period .ensures) ∙ not-true _ (c .if3 .taken))
+returns-3 c = fails-len (c .before .before .before .before .before .before .before .loop .inv) (c .before .before .before .before .before .before .loop-test .taken) _ (omega (arith, c .before .before .if2 .left)) (sym (c .before .is-period .ensures) ∙ not-true _ (c .if3 .taken))
 
 add-next : tie.Need-add-next Inv-loop μ-loop
 add-next c = search needs

@@ -65,6 +65,16 @@ module _ (p : ℕ → Bool) where
       (each-then (λ k l. omega arith) (below p n) (below-low n))
       (only-each (p n) (suc n) n (le-refl (suc n)) refl)
 
+  only-passes : (b : Bool) (v : ℕ) → p v ≡ b → Each (λ k. p k ≡ true) (only b v)
+  only-passes true v e = (e, tt)
+  only-passes false v e = tt
+
+  -- its members pass the test
+  pub below-passes : (n : ℕ) → Each (λ k. p k ≡ true) (below p n)
+  unfolding below
+  below-passes zero = tt
+  below-passes (suc n) = each-append (λ k. p k ≡ true) (below p n) (only (p n) n) (below-passes n) (only-passes (p n) n refl)
+
   rising-only : (b : Bool) (xs : List ℕ) (n : ℕ) → Rising xs → Each (λ k. k < n) xs → Rising (xs ++ only b n)
   rising-only true xs n r l = rising-snoc xs n r l
   rising-only false xs n r l = rw append-nil r

@@ -92,6 +92,11 @@ pub rising-snoc : (xs : List ℕ) (n : ℕ) → Rising xs → Each (λ k. k < n)
 rising-snoc [] n r l = (tt, tt)
 rising-snoc (x ∷ xs) n r l = (each-append (λ y. x < y) xs (n ∷ []) (r .0) (l .0, tt), rising-snoc xs n (r .1) (l .1))
 
+-- rising numbers, each replaced by f that rises
+pub rising-map : (f : ℕ → ℕ) → ((x y : ℕ) → x < y → f x < f y) → (xs : List ℕ) → Rising xs → Rising (map f xs)
+rising-map f m [] r = tt
+rising-map f m (x ∷ xs) r = (each-map (λ z. f x < z) f xs (each-then (λ y l. m x y l) xs (r .0)), rising-map f m xs (r .1))
+
 -- rising numbers, each replaced by f that falls, rise again from the last to the first
 pub rising-reverse : (f : ℕ → ℕ) (P : ℕ → Type 0) → ((x y : ℕ) → P x → P y → x < y → f y < f x) → (xs : List ℕ) → Each P xs → Rising xs → Rising (reverse (map f xs))
 rising-reverse f P falls [] h r = tt
@@ -112,6 +117,10 @@ join-map g f [] = refl
 join-map {C} g f (x ∷ xs) = ap (λ (t : List C). f (g x) ++ t) (join-map g f xs)
 
 module _ {A B : Type 0} where
+  pub join-cong : (f g : A → List B) → ((x : A) → f x ≡ g x) → (xs : List A) → join f xs ≡ join g xs
+  join-cong f g same [] = refl
+  join-cong f g same (x ∷ xs) = cc (same x, join-cong f g same xs)
+
   pub join-append : (f : A → List B) (xs ys : List A) → join f (xs ++ ys) ≡ join f xs ++ join f ys
   join-append f [] ys = refl
   join-append f (x ∷ xs) ys = rw (join-append f xs ys) (sym (append-assoc (f x) (join f xs) (join f ys)))

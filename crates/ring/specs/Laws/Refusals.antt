@@ -38,7 +38,8 @@ pub first-later : (cs ds : List (Bool × ℕ)) → Each (λ c. c .1 ≡ 0 → �
 first-later [] ds p h = refl
 first-later (c ∷ cs) ds p h = pick-later (c .0) (c .1) (firstOf cs) (firstOf (cs ++ ds)) (firstOf ds) (p .0) (first-later cs ds (p .1)) h
 
-pick-none : (b : Bool) (n x : ℕ) → (n ≡ 0 → ⊥) → pick b n x ≡ 0 → (b ≡ false) × (x ≡ 0)
+-- the first does not apply, nor a later one
+pub pick-none : (b : Bool) (n x : ℕ) → (n ≡ 0 → ⊥) → pick b n x ≡ 0 → (b ≡ false) × (x ≡ 0)
 pick-none true n x p h = absurd (p h)
 pick-none false n x p h = (refl, h)
 

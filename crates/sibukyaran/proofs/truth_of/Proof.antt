@@ -4,22 +4,16 @@ use Rattle.diagonals.specs.Calls.{truths}
 use borrow.Author.Needs.{needs}
 use Rattle.sibukyaran.proofs.truth_of.Statement.{statement}
 use Rattle.sibukyaran.proofs.truth_of.Tie as tie
-use Rattle.sibukyaran.proofs.truth_of.Reads as reads
-use Rattle.sibukyaran.proofs.truth_of.Lts as lts
 
--- src/lib.rt:43:34
 enum-known-t : tie.Need-enum-known-t
 enum-known-t c = search needs
 
--- src/lib.rt:47:29
 enum-known-t-2 : tie.Need-enum-known-t-2
 enum-known-t-2 c = search needs
 
--- src/lib.rt:39:1
 returns : tie.Need-returns
 returns c = sym (ap truths (c .before .t .given .1))
 
--- src/lib.rt:39:1
 returns-2 : tie.Need-returns-2
 returns-2 c = sym (ap truths (c .before .t2 .given .1))
 

@@ -1,4 +1,5 @@
 -- `diagonals::reading::indexes` meets its contract. Assumes nothing.
+use native.Mathlib.Omega.{arith}
 use Rattle.diagonals.specs.Laws.Calls.{indexes-map-refused, indexes-no-room, indexes-written}
 use borrow.Author.Needs.{needs}
 use Rattle.diagonals.proofs.reading.indexes.Statement.{statement}
@@ -11,10 +12,10 @@ returns : tie.Need-returns
 returns c = indexes-map-refused (c .before .map-refusal .ensures) (c .if1 .taken)
 
 returns-2 : tie.Need-returns-2
-returns-2 c = indexes-no-room (c .before .before .map-refusal .ensures) (c .before .if1 .left) (c .if2 .taken)
+returns-2 c = indexes-no-room (c .before .before .map-refusal .ensures) (c .before .if1 .left) (omega (arith, c .if2 .taken))
 
 write-indexes-requires : tie.Need-write-indexes-requires
-write-indexes-requires c κs = (c .before .before .before .map-refusal .ensures .formed (c .before .before .if1 .left) .pairs-inside, c .before .if2 .left)
+write-indexes-requires c κs = (c .before .before .before .map-refusal .ensures .formed (c .before .before .if1 .left) .pairs-inside, omega (arith, c .before .if2 .left))
 
 same-length : tie.Need-same-length
 same-length c = search needs

@@ -27,7 +27,7 @@ shared-slice-read-if2 : tie.Need-shared-slice-read-if2
 shared-slice-read-if2 c = search needs
 
 returns-2 : tie.Need-returns-2
-returns-2 c = record { order = le-refl 0; inside = omega arith; is = sym (placed-other (c .before .before .before .before .before .before .pre) (c .before .before .before .place-of .ensures) (omega (arith, c .before .before .before .place-of .ensures .inside)) (c .if2 .taken)) }
+returns-2 c = record { order = le-refl 0; inside = omega arith; is = sym (placed-other (c .before .before .before .before .before .before .pre) (c .before .before .before .place-of .ensures) (omega (arith, c .before .before .before .place-of .ensures .inside)) (λ e. omega (arith, c .if2 .taken))) }
 
 add-wide : tie.Need-add-wide
 add-wide c = search needs
@@ -48,7 +48,7 @@ add-t17 : tie.Need-add-t17
 add-t17 c = omega (arith, stretch-end c)
 
 returns-3 : tie.Need-returns-3
-returns-3 c = record { order = omega arith; inside = rw (c .wide .ensures) (stretch-end c); is = rw (add-sub-cancel-left, c .wide .ensures) (sym (placed-here (c .before .before .before .before .before .before .before .before .pre) (c .before .before .before .before .before .place-of .ensures) (omega (arith, c .before .before .before .before .before .place-of .ensures .inside)) (c .before .before .if2 .left))) }
+returns-3 c = record { order = omega arith; inside = rw (c .wide .ensures) (stretch-end c); is = rw (add-sub-cancel-left, c .wide .ensures) (sym (placed-here (c .before .before .before .before .before .before .before .before .pre) (c .before .before .before .before .before .place-of .ensures) (omega (arith, c .before .before .before .before .before .place-of .ensures .inside)) (omega (arith, c .before .before .if2 .left)))) }
 
 pub stretch-of-spec : {M : Type 1} → statement M
 stretch-of-spec =

@@ -10,8 +10,6 @@ use Rattle.ring.specs.Vectors.{Filling, filled, inFront}
 use Rattle.ring.specs.Laws.Vectors.{filling-none, filling-more, filled-front, tabulate-getD}
 use Rattle.sibukyaran.proofs.maps.copy_front.Statement.{statement}
 use Rattle.sibukyaran.proofs.maps.copy_front.Tie as tie
-use Rattle.sibukyaran.proofs.maps.copy_front.Reads as reads
-use Rattle.sibukyaran.proofs.maps.copy_front.Lts as lts
 
 abbrev Inv-loop : tie.InvT-loop
 Inv-loop src out₀ i₀ i-end out i = Filling (λ k. getD src k 0) out₀ out i × (i ≤ i-end) × (i-end ≡ length src)
@@ -19,43 +17,33 @@ Inv-loop src out₀ i₀ i-end out i = Filling (λ k. getD src k 0) out₀ out i
 abbrev μ-loop : tie.MeasureT-loop
 μ-loop src out₀ i₀ i-end out i = i-end - i
 
--- src/maps.rt:115:5
 loop-holds : tie.Need-loop-holds Inv-loop μ-loop
 loop-holds c = (filling-none _ _, omega arith, refl)
 
--- src/maps.rt:116:18
 mul-out : tie.Need-mul-out Inv-loop μ-loop
 mul-out c = search needs
 
--- src/maps.rt:116:18
 shared-slice-read-out : tie.Need-shared-slice-read-out Inv-loop μ-loop
 shared-slice-read-out c = search needs
 
--- src/maps.rt:116:9
 mul-out-2 : tie.Need-mul-out-2 Inv-loop μ-loop
 mul-out-2 c = search needs
 
--- src/maps.rt:116:9
 slice-write-out : tie.Need-slice-write-out Inv-loop μ-loop
 slice-write-out c = search needs
 
--- src/maps.rt:115:9
 add-i : tie.Need-add-i Inv-loop μ-loop
 add-i c = search needs
 
--- src/maps.rt:115:5
 loop-less : tie.Need-loop-less Inv-loop μ-loop
 loop-less c = search needs
 
--- src/maps.rt:115:5
 loop-again : tie.Need-loop-again Inv-loop μ-loop
 loop-again c = (filling-more (c .before .before .loop .inv .0) (search needs) refl, omega arith, refl)
 
--- src/maps.rt:111:1
 same-length : tie.Need-same-length Inv-loop μ-loop
 same-length c = search needs
 
--- src/maps.rt:111:1
 returns : tie.Need-returns Inv-loop μ-loop
 returns c =
     let src = now (c .before .before .args .src) in

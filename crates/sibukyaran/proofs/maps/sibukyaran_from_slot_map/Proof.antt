@@ -3,28 +3,19 @@ use Rattle.sibukyaran.proofs.Told.{map-told}
 use borrow.Author.Needs.{needs}
 use Rattle.sibukyaran.proofs.maps.sibukyaran_from_slot_map.Statement.{statement}
 use Rattle.sibukyaran.proofs.maps.sibukyaran_from_slot_map.Tie as tie
-use Rattle.sibukyaran.proofs.maps.sibukyaran_from_slot_map.Reads as reads
-use Rattle.sibukyaran.proofs.maps.sibukyaran_from_slot_map.Lts as lts
-use Rattle.diagonals.proofs.from_slot_map.Reads as from-slot-map-reads
-use Rattle.sibukyaran.proofs.numbers_of.Reads as numbers-of-reads
 
--- src/maps.rt:64:23
 from-slot-map-requires : tie.Need-from-slot-map-requires
 from-slot-map-requires c κs = search needs
 
--- src/maps.rt:64:5
 numbers-of-requires : tie.Need-numbers-of-requires
 numbers-of-requires c κs = search needs
 
--- src/maps.rt:60:1
 same-length : tie.Need-same-length
 same-length c = search needs
 
--- src/maps.rt:60:1
 same-length-2 : tie.Need-same-length-2
 same-length-2 c = search needs
 
--- src/maps.rt:60:1
 returns : tie.Need-returns
 returns c = map-told (c .before .before .before .before .before .from-slot-map .ensures) (c .numbers-of .ensures)
 

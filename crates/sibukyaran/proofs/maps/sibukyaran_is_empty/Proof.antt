@@ -4,20 +4,13 @@ use Rattle.diagonals.specs.Calls.{truths}
 use borrow.Author.Needs.{needs}
 use Rattle.sibukyaran.proofs.maps.sibukyaran_is_empty.Statement.{statement}
 use Rattle.sibukyaran.proofs.maps.sibukyaran_is_empty.Tie as tie
-use Rattle.sibukyaran.proofs.maps.sibukyaran_is_empty.Reads as reads
-use Rattle.sibukyaran.proofs.maps.sibukyaran_is_empty.Lts as lts
-use Rattle.diagonals.proofs.is_empty.Reads as is-empty-reads
-use Rattle.sibukyaran.proofs.truth_of.Reads as truth-of-reads
 
--- src/maps.rt:36:21
 is-empty-requires : tie.Need-is-empty-requires
 is-empty-requires c κs = search needs
 
--- src/maps.rt:36:5
 truth-of-requires : tie.Need-truth-of-requires
 truth-of-requires c κs = search needs
 
--- src/maps.rt:32:1
 returns : tie.Need-returns
 returns c = c .truth-of .ensures ∙ ap truths (c .before .is-empty .ensures)
 

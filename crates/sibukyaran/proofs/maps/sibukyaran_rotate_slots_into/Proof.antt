@@ -4,19 +4,13 @@ use mir.ValLaws.{toZ-ofZ}
 use borrow.Author.Needs.{needs}
 use Rattle.sibukyaran.proofs.maps.sibukyaran_rotate_slots_into.Statement.{statement}
 use Rattle.sibukyaran.proofs.maps.sibukyaran_rotate_slots_into.Tie as tie
-use Rattle.sibukyaran.proofs.maps.sibukyaran_rotate_slots_into.Reads as reads
-use Rattle.sibukyaran.proofs.maps.sibukyaran_rotate_slots_into.Lts as lts
-use Rattle.diagonals.proofs.rotate_slots_into.Reads as rotate-slots-into-reads
 
--- src/maps.rt:71:5
 rotate-slots-into-requires : tie.Need-rotate-slots-into-requires
 rotate-slots-into-requires c κs = search needs
 
--- src/maps.rt:67:1
 same-length : tie.Need-same-length
 same-length c = search needs
 
--- src/maps.rt:67:1
 returns : tie.Need-returns
 returns c = rw (toZ-ofZ w64 (c .before .before .before .before .before .before .args .k) (c .before .before .before .before .before .before .fits .k)) at (c .before .before .rotate-slots-into .ensures)
 

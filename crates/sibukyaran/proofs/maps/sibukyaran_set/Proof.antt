@@ -5,28 +5,19 @@ use Rattle.sibukyaran.proofs.Told.{map-told}
 use borrow.Author.Needs.{needs}
 use Rattle.sibukyaran.proofs.maps.sibukyaran_set.Statement.{statement}
 use Rattle.sibukyaran.proofs.maps.sibukyaran_set.Tie as tie
-use Rattle.sibukyaran.proofs.maps.sibukyaran_set.Reads as reads
-use Rattle.sibukyaran.proofs.maps.sibukyaran_set.Lts as lts
-use Rattle.diagonals.proofs.set.Reads as set-reads
-use Rattle.sibukyaran.proofs.numbers_of.Reads as numbers-of-reads
 
--- src/maps.rt:57:23
 set-requires : tie.Need-set-requires
 set-requires c κs = search needs
 
--- src/maps.rt:57:5
 numbers-of-requires : tie.Need-numbers-of-requires
 numbers-of-requires c κs = search needs
 
--- src/maps.rt:53:1
 same-length : tie.Need-same-length
 same-length c = search needs
 
--- src/maps.rt:53:1
 same-length-2 : tie.Need-same-length-2
 same-length-2 c = search needs
 
--- src/maps.rt:53:1
 returns : tie.Need-returns
 returns c = map-told (rw (toZ-ofZ w64 (c .before .before .before .before .before .before .before .before .before .before .before .args .index) (c .before .before .before .before .before .before .before .before .before .before .before .fits .index)) at (c .before .before .before .before .before .set .ensures)) (c .numbers-of .ensures)
 

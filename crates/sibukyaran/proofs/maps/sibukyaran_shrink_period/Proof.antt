@@ -3,28 +3,19 @@ use Rattle.sibukyaran.proofs.Told.{map-told}
 use borrow.Author.Needs.{needs}
 use Rattle.sibukyaran.proofs.maps.sibukyaran_shrink_period.Statement.{statement}
 use Rattle.sibukyaran.proofs.maps.sibukyaran_shrink_period.Tie as tie
-use Rattle.sibukyaran.proofs.maps.sibukyaran_shrink_period.Reads as reads
-use Rattle.sibukyaran.proofs.maps.sibukyaran_shrink_period.Lts as lts
-use Rattle.diagonals.proofs.shrink_period.Reads as shrink-period-reads
-use Rattle.sibukyaran.proofs.numbers_of.Reads as numbers-of-reads
 
--- src/maps.rt:78:23
 shrink-period-requires : tie.Need-shrink-period-requires
 shrink-period-requires c κs = search needs
 
--- src/maps.rt:78:5
 numbers-of-requires : tie.Need-numbers-of-requires
 numbers-of-requires c κs = search needs
 
--- src/maps.rt:74:1
 same-length : tie.Need-same-length
 same-length c = search needs
 
--- src/maps.rt:74:1
 same-length-2 : tie.Need-same-length-2
 same-length-2 c = search needs
 
--- src/maps.rt:74:1
 returns : tie.Need-returns
 returns c = map-told (c .before .before .before .before .before .shrink-period .ensures) (c .numbers-of .ensures)
 

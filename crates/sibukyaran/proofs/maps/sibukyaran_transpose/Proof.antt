@@ -3,28 +3,19 @@ use Rattle.sibukyaran.proofs.Told.{map-told}
 use borrow.Author.Needs.{needs}
 use Rattle.sibukyaran.proofs.maps.sibukyaran_transpose.Statement.{statement}
 use Rattle.sibukyaran.proofs.maps.sibukyaran_transpose.Tie as tie
-use Rattle.sibukyaran.proofs.maps.sibukyaran_transpose.Reads as reads
-use Rattle.sibukyaran.proofs.maps.sibukyaran_transpose.Lts as lts
-use Rattle.diagonals.proofs.transpose.Reads as transpose-reads
-use Rattle.sibukyaran.proofs.numbers_of.Reads as numbers-of-reads
 
--- src/maps.rt:85:23
 transpose-requires : tie.Need-transpose-requires
 transpose-requires c κs = search needs
 
--- src/maps.rt:85:5
 numbers-of-requires : tie.Need-numbers-of-requires
 numbers-of-requires c κs = search needs
 
--- src/maps.rt:81:1
 same-length : tie.Need-same-length
 same-length c = search needs
 
--- src/maps.rt:81:1
 same-length-2 : tie.Need-same-length-2
 same-length-2 c = search needs
 
--- src/maps.rt:81:1
 returns : tie.Need-returns
 returns c = map-told (c .before .before .before .before .before .transpose .ensures) (c .numbers-of .ensures)
 

@@ -1,0 +1,9 @@
+-- What is proved of the definitions: for any slots, any step and any b.
+pub mod Members
+pub mod Plans
+pub mod Closures
+pub mod Passes
+pub mod Digits
+pub mod Bits
+pub mod Leaves
+pub mod Calls
