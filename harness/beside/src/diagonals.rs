@@ -739,7 +739,7 @@ pub fn bench(bench: &mut Bench) {
     let words = |values: &[u64]| values.iter().fold(0u64, |s, &w| s.wrapping_add(w));
     let mut out = vec![0; slots];
     bench.pair(
-        "get, one of 511 diagonals of 65,536, copied, summed",
+        "get, one of 511 of 65,536, copied and summed",
         Some(1.0),
         || {
             ours::get_into(keep(stored.lent()), 128 * 255, &mut out);
@@ -749,6 +749,15 @@ pub fn bench(bench: &mut Bench) {
             let copy = keep(&rust).get(128 * 255).unwrap().clone();
             copy.iter().fold(Wrapping(0), |s, &w| s + w)
         },
+    );
+    bench.pair(
+        "get, one of 511 of 65,536, summed; the Rust in place",
+        Some(1.0),
+        || {
+            ours::get_into(keep(stored.lent()), 128 * 255, &mut out);
+            words(&out)
+        },
+        || keep(&rust).get(128 * 255).unwrap().iter().fold(Wrapping(0), |s, &w| s + w),
     );
     let new = random.words(slots);
     let new_rust = wrapped(&new);
