@@ -7,6 +7,7 @@ use poulpy_core::layouts::{Diagonals, rotate_slots_into};
 use crate::bench::{Bench, keep};
 use crate::ours::{self, Lent, Map, Numbers, Terms, Truth};
 use crate::random::{Random, divisors};
+use crate::ring::outside;
 use crate::sample::Sample;
 use crate::tally::Tally;
 
@@ -49,7 +50,7 @@ impl Stored {
 
 /// Document 01's refusals 1 and 2 of a lent map.
 pub fn right_map_refusal(map: Map) -> u32 {
-    if !(1..=65_536).contains(&map.slots) {
+    if outside(map.slots) {
         return 1;
     }
     let Some(pairs) = map.count.checked_mul(2).and_then(|n| map.pairs.get(..n)) else {
@@ -127,7 +128,7 @@ fn any_period(random: &mut Random, slots: usize) -> Vec<u64> {
     (0..length).map(|_| if kinds == 3 { random.word() } else { random.word() % (kinds + 1) }).collect()
 }
 
-fn wrapped(values: &[u64]) -> Vec<Wrapping<u64>> {
+pub fn wrapped(values: &[u64]) -> Vec<Wrapping<u64>> {
     values.iter().map(|&w| Wrapping(w)).collect()
 }
 
@@ -269,7 +270,7 @@ fn right_set(map: Map, index: i64, new: &[u64]) -> Written {
 
 fn right_from_slot_map(slots: usize, period: usize, terms: &Terms, pairs: &[u32], values: &[u64]) -> Written {
     let zipped = || terms.is.iter().zip(&terms.js).zip(&terms.ws).map(|((&i, &j), &w)| (i as usize, j as usize, w));
-    let refusal = if !(1..=65_536).contains(&slots) {
+    let refusal = if outside(slots) {
         1
     } else if period == 0 || !slots.is_multiple_of(period) {
         4
@@ -285,7 +286,7 @@ fn right_from_slot_map(slots: usize, period: usize, terms: &Terms, pairs: &[u32]
 }
 
 fn right_rotate(src: &[u64], k: i64, out: &[u64]) -> (u32, Vec<u64>) {
-    if !(1..=65_536).contains(&src.len()) {
+    if outside(src.len()) {
         return (3, out.to_vec());
     }
     if !out.len().is_multiple_of(src.len()) {
@@ -382,7 +383,7 @@ pub fn compare(tally: &mut Tally) {
     let mut random = Random::new(4);
     tally.run("new: slots at and past the limits", |cases| {
         for slots in [0, 1, 2, 65_535, 65_536, 65_537, usize::MAX] {
-            let right = if (1..=65_536).contains(&slots) { Numbers::is(0) } else { Numbers::refused(1) };
+            let right = if outside(slots) { Numbers::refused(1) } else { Numbers::is(0) };
             cases.same(|| format!("{slots}"), ours::new(slots), right);
         }
     });
@@ -581,8 +582,7 @@ fn written_words((answer, pairs, values): Written) -> Vec<u64> {
 pub fn sample(sample: &mut Sample) {
     let mut random = Random::new(5);
     for slots in [0, 1, 65_536, 65_537] {
-        let refusal = if (1..=65_536).contains(&slots) { 0 } else { 1 };
-        sample.call(16, &[slots], &[refusal, 0]);
+        sample.call(16, &[slots as u64], &[outside(slots) as u64, 0]);
     }
     for slots in [1, 2, 3, 4, 6, 12] {
         for _ in 0..2 {
@@ -738,27 +738,14 @@ pub fn bench(bench: &mut Bench) {
     let stored = Stored::of(&rust);
     let words = |values: &[u64]| values.iter().fold(0u64, |s, &w| s.wrapping_add(w));
     let mut out = vec![0; slots];
-    bench.pair(
-        "get, one of 511 of 65,536, copied and summed",
-        Some(1.0),
-        || {
-            ours::get_into(keep(stored.lent()), 128 * 255, &mut out);
-            words(&out)
-        },
-        || {
-            let copy = keep(&rust).get(128 * 255).unwrap().clone();
-            copy.iter().fold(Wrapping(0), |s, &w| s + w)
-        },
-    );
-    bench.pair(
-        "get, one of 511 of 65,536, summed; the Rust in place",
-        Some(1.0),
-        || {
-            ours::get_into(keep(stored.lent()), 128 * 255, &mut out);
-            words(&out)
-        },
-        || keep(&rust).get(128 * 255).unwrap().iter().fold(Wrapping(0), |s, &w| s + w),
-    );
+    let mut read = || {
+        ours::get_into(keep(stored.lent()), 128 * 255, &mut out);
+        words(&out)
+    };
+    let sum = |values: &[Wrapping<u64>]| values.iter().fold(Wrapping(0), |s, &w| s + w);
+    let stretch = || keep(&rust).get(128 * 255).unwrap();
+    bench.pair("get, one of 511 of 65,536, copied and summed", Some(1.0), &mut read, || sum(&stretch().clone()));
+    bench.pair("get, one of 511 of 65,536, summed; the Rust in place", Some(1.0), &mut read, || sum(stretch()));
     let new = random.words(slots);
     let new_rust = wrapped(&new);
     let (mut pairs, mut values) = (stored.pairs.clone(), stored.values.clone());

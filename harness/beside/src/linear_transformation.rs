@@ -4,14 +4,9 @@ use poulpy_core::layouts::{call_baby_multiple, call_giant_digit, call_normalize_
 
 use crate::ours::{self, Numbers, SignedDigit};
 use crate::random::Random;
+use crate::ring::{MOST, outside};
 use crate::sample::Sample;
 use crate::tally::Tally;
-
-const MOST: usize = 65_536;
-
-fn outside(n: usize) -> bool {
-    !(1..=MOST).contains(&n)
-}
 
 fn right_normal(diagonal: i64, slots: usize) -> Numbers {
     if outside(slots) {

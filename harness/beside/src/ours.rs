@@ -64,38 +64,6 @@ mod c {
         pub safe fn sibukyaran_normalize_linear_transform_diagonal(diagonal: i64, slots: usize) -> Numbers;
         pub safe fn sibukyaran_baby_multiple(baby: i64, baby_step: usize) -> Numbers;
         pub safe fn sibukyaran_giant_digit(rot: i64, giant_step: usize, slots: usize) -> SignedDigit;
-        pub fn sibukyaran_map_refusal(s: usize, c: usize, p: *const u32, pn: usize, v: *const u64, vn: usize) -> u32;
-        pub fn sibukyaran_is_empty(s: usize, c: usize, p: *const u32, pn: usize, v: *const u64, vn: usize) -> Truth;
-        pub fn sibukyaran_indexes(
-            s: usize,
-            c: usize,
-            p: *const u32,
-            pn: usize,
-            v: *const u64,
-            vn: usize,
-            out: *mut u32,
-            out_len: usize,
-        ) -> Numbers;
-        pub fn sibukyaran_period(
-            s: usize,
-            c: usize,
-            p: *const u32,
-            pn: usize,
-            v: *const u64,
-            vn: usize,
-            index: i64,
-        ) -> Numbers;
-        pub fn sibukyaran_get_into(
-            s: usize,
-            c: usize,
-            p: *const u32,
-            pn: usize,
-            v: *const u64,
-            vn: usize,
-            index: i64,
-            out: *mut u64,
-            out_len: usize,
-        ) -> Numbers;
         pub fn sibukyaran_set(
             s: usize,
             c: usize,
@@ -122,68 +90,36 @@ mod c {
             vn: usize,
         ) -> Numbers;
         pub fn sibukyaran_rotate_slots_into(src: *const u64, n: usize, k: i64, out: *mut u64, m: usize) -> u32;
-        pub fn sibukyaran_shrink_period(
-            s: usize,
-            c: usize,
-            p: *const u32,
-            pn: usize,
-            v: *const u64,
-            vn: usize,
-            po: *mut u32,
-            pon: usize,
-            vo: *mut u64,
-            von: usize,
-        ) -> Numbers;
-        pub fn sibukyaran_transpose(
-            s: usize,
-            c: usize,
-            p: *const u32,
-            pn: usize,
-            v: *const u64,
-            vn: usize,
-            po: *mut u32,
-            pon: usize,
-            vo: *mut u64,
-            von: usize,
-        ) -> Numbers;
-        pub fn sibukyaran_evaluate_bsgs(
-            s: usize,
-            c: usize,
-            p: *const u32,
-            pn: usize,
-            v: *const u64,
-            vn: usize,
-            input: *const u64,
-            n: usize,
-            giant_step: usize,
-            out: *mut u64,
-            m: usize,
-        ) -> u32;
-        pub fn sibukyaran_evaluate_bsgs_powers_of_two(
-            s: usize,
-            c: usize,
-            p: *const u32,
-            pn: usize,
-            v: *const u64,
-            vn: usize,
-            input: *const u64,
-            n: usize,
-            giant_step: usize,
-            out: *mut u64,
-            m: usize,
-        ) -> u32;
-        pub fn sibukyaran_evaluate_direct(
-            s: usize,
-            c: usize,
-            p: *const u32,
-            pn: usize,
-            v: *const u64,
-            vn: usize,
-            input: *const u64,
-            n: usize,
-            out: *mut u64,
-            m: usize,
-        ) -> u32;
+    }
+
+    /// Functions that are lent a map and no more than read it: the map's six arguments, then the others.
+    macro_rules! on_map {
+        ($($name:ident($($arg:ident: $kind:ty),*) -> $answer:ty;)*) => {
+            unsafe extern "C" {
+                $(pub fn $name(
+                    slots: usize,
+                    count: usize,
+                    pairs: *const u32,
+                    pairs_len: usize,
+                    values: *const u64,
+                    values_len: usize,
+                    $($arg: $kind),*
+                ) -> $answer;)*
+            }
+        };
+    }
+
+    on_map! {
+        sibukyaran_map_refusal() -> u32;
+        sibukyaran_is_empty() -> Truth;
+        sibukyaran_indexes(out: *mut u32, out_len: usize) -> Numbers;
+        sibukyaran_period(index: i64) -> Numbers;
+        sibukyaran_get_into(index: i64, out: *mut u64, out_len: usize) -> Numbers;
+        sibukyaran_shrink_period(po: *mut u32, pon: usize, vo: *mut u64, von: usize) -> Numbers;
+        sibukyaran_transpose(po: *mut u32, pon: usize, vo: *mut u64, von: usize) -> Numbers;
+        sibukyaran_evaluate_bsgs(input: *const u64, n: usize, giant_step: usize, out: *mut u64, m: usize) -> u32;
+        sibukyaran_evaluate_bsgs_powers_of_two(input: *const u64, n: usize, giant_step: usize, out: *mut u64, m: usize) -> u32;
+        sibukyaran_evaluate_direct(input: *const u64, n: usize, out: *mut u64, m: usize) -> u32;
     }
 }
 

@@ -32,14 +32,21 @@ const SHIFTS: [i64; 11] =
 /// Lengths with odd and repeated prime factors, and the largest.
 const LONG: [usize; 6] = [46_189, 59_049, 64_974, 65_521, 65_535, 65_536];
 
+/// The most slots, and the largest width, step, period and length.
+pub const MOST: usize = 65_536;
+
+/// Below 1 or above the most: document 01's condition of refusals 1 and 3.
+pub fn outside(n: usize) -> bool {
+    !(1..=MOST).contains(&n)
+}
+
 /// What the Rust answers, or refusal 3 where document 01 has it.
 fn right_lcm(a: usize, b: usize) -> Numbers {
-    let range = 1..=65_536;
-    if range.contains(&a) && range.contains(&b) { Numbers::is(period_lcm(a, b)) } else { Numbers::refused(3) }
+    if outside(a) || outside(b) { Numbers::refused(3) } else { Numbers::is(period_lcm(a, b)) }
 }
 
 fn right_min_period(v: &[u64]) -> Numbers {
-    if (1..=65_536).contains(&v.len()) { Numbers::is(call_min_period(v)) } else { Numbers::refused(3) }
+    if outside(v.len()) { Numbers::refused(3) } else { Numbers::is(call_min_period(v)) }
 }
 
 fn right_multiply_add(a: &[u64], b: &[u64], out: &[u64]) -> (u32, Vec<u64>) {

@@ -1,19 +1,14 @@
 //! The plain run beside `evaluate` of document 001.
 
-use std::num::Wrapping;
-
 use poulpy_core::layouts::{Evaluate, LinearTransformationStrategy as Strategy};
 
 use crate::bench::{Bench, keep};
-use crate::diagonals::{Stored, any_map, every_map, map_words, right_map_refusal, rust_map, wide_map};
+use crate::diagonals::{Stored, any_map, every_map, map_words, right_map_refusal, rust_map, wide_map, wrapped};
 use crate::ours::{self, Lent, Map};
 use crate::random::Random;
+use crate::ring::outside;
 use crate::sample::Sample;
 use crate::tally::Tally;
-
-fn wrapped(values: &[u64]) -> Vec<Wrapping<u64>> {
-    values.iter().map(|&w| Wrapping(w)).collect()
-}
 
 fn width(strategy: Strategy) -> Option<usize> {
     match strategy {
@@ -24,7 +19,7 @@ fn width(strategy: Strategy) -> Option<usize> {
 
 fn right_evaluate(map: Map, input: &[u64], strategy: Strategy, out: &[u64]) -> (u32, Vec<u64>) {
     let refusal = match right_map_refusal(map) {
-        0 if width(strategy).is_some_and(|w| !(1..=65_536).contains(&w)) => 3,
+        0 if width(strategy).is_some_and(outside) => 3,
         0 if input.len() != map.slots => 7,
         0 if out.len() < map.slots => 12,
         refusal => refusal,

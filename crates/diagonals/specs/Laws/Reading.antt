@@ -1,12 +1,12 @@
 -- Laws of reading: a map that a call wrote is accepted by the next call, which sees that map; reading after setting.
 -- Assumes nothing.
 use Prim.Native.Nat.{ℕ, _<_}
-use mathlib.Core.Path.{_≡_, refl, sym, ap, _∙_}
-use mathlib.Core.Bool.{Bool, true, false, not, true≢false}
+use mathlib.Core.Path.{_≡_, sym, ap, _∙_}
+use mathlib.Core.Bool.{true, false, not}
 use mathlib.Core.List.{List, [], _∷_}
 use native.Mathlib.Nat.{suc-ne-zero}
 use native.Mathlib.Omega.{arith}
-use borrow.Author.Tests.{ltb-false, eqb-false}
+use borrow.Author.Tests.{ltb-false, eqb-false, not-false}
 use lib.IntN.{ℤ}
 use lib.ListN.{length}
 use Rattle.ring.specs.Vectors.{inFront}
@@ -23,15 +23,11 @@ use Rattle.diagonals.specs.Laws.Maps.{formed-means}
 use Rattle.diagonals.specs.Laws.Setting.{stretch-placed, stretch-other, placed-formed}
 use Rattle.diagonals.specs.Laws.Words.{FormedMap, formed-view, length-pairWords, words-formed, means-formed, view-inFront}
 
-no-not : (b : Bool) → not b ≡ false → b ≡ true
-no-not true h = refl
-no-not false h = absurd (true≢false h)
-
 -- a length that refusal 4 does not name
 pub period-formed : (slots k len : ℕ) → k < slots → noPeriod slots len ≡ false → Formed slots k len
 period-formed slots k len l h =
     let e = either _ _ h in
-    record { low = l; some = omega (arith, eqb-false len 0 (e .0)); divides = divides-dvd len slots (no-not _ (e .1)) }
+    record { low = l; some = omega (arith, eqb-false len 0 (e .0)); divides = divides-dvd len slots (not-false _ (e .1)) }
 
 -- a map that stands in front of buffers
 module _ (slots : ℕ) (ds : List Diagonal) (pairs values : List ℕ) (range : outside slots ≡ false) (f : FormedMap slots ds) (room : noRoom ds pairs values ≡ false) where
@@ -60,7 +56,7 @@ module _ (slots count : ℕ) (pairs values : List ℕ) (index : ℤ) (new : List
       (suc-ne-zero 0, (suc-ne-zero 1, (suc-ne-zero 3, (suc-ne-zero 11, tt)))) ok
 
   formed : WellFormed slots count pairs values
-  formed = formed-means slots count pairs values (no-not _ (none .1 .0))
+  formed = formed-means slots count pairs values (not-false _ (none .1 .0))
 
   set-is-formed : FormedMap slots (setMap slots count pairs values index new)
   set-is-formed =
@@ -83,4 +79,4 @@ module _ (slots count : ℕ) (pairs values : List ℕ) (index : ℤ) (new : List
       ∙ sym (accepted-gotten i)
     where
       accepted-gotten : (i : ℤ) → gotten slots count pairs values i ≡ stretch (view count pairs values) (residueOf i slots)
-      accepted-gotten i = rw (none .0, no-not (wellFormed slots count pairs values) (none .1 .0))
+      accepted-gotten i = rw (none .0, not-false (wellFormed slots count pairs values) (none .1 .0))

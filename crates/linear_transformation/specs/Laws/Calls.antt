@@ -5,7 +5,7 @@ use mathlib.Core.Path.{_≡_, refl, ap}
 use mathlib.Core.Bool.{Bool, true, false, not, _||_, true≢false}
 use native.Mathlib.Nat.{suc-ne-zero, div-add-mod'}
 use native.Mathlib.Omega.{arith}
-use borrow.Author.Tests.{eqb-true}
+use borrow.Author.Tests.{eqb-true, not-false}
 use lib.Dec.{ltb}
 use lib.IntN.{ℤ, pos, negsuc, _*ℤ_}
 use lib.Signed.{mag}
@@ -28,10 +28,6 @@ numbers-answered (suc e) d = refl
 none : (b : Bool) (n x : ℕ) → pick b (suc n) x ≡ 0 → (b ≡ false) × (x ≡ 0)
 none b n x h = pick-none b (suc n) x (suc-ne-zero n) h
 
-holds : {b : Bool} → not b ≡ false → b ≡ true
-holds {b = true} h = refl
-holds {b = false} h = absurd (true≢false h)
-
 third : (a b c : Bool) → (a || b || c) ≡ false → c ≡ false
 third true b c h = absurd (true≢false h)
 third false true c h = absurd (true≢false h)
@@ -40,7 +36,7 @@ third false false c h = h
 -- a baby that is accepted is its multiple of the step
 multiple : (baby : ℤ) (step : ℕ) → noBaby baby step ≡ false → pos (babyMultiple baby step * step) ≡ baby
 multiple (pos n) step h =
-    let d : n % step ≡ 0 = eqb-true _ 0 (holds (third (ltb n 0) (ltb 65535 n) _ h)) in
+    let d : n % step ≡ 0 = eqb-true _ 0 (not-false _ (third (ltb n 0) (ltb 65535 n) _ h)) in
     ap pos (omega (arith, div-add-mod' n step))
 multiple (negsuc n) step h = absurd (true≢false h)
 
@@ -56,7 +52,7 @@ module _ (slots step : ℕ) (rot : ℤ) (h : digitRefusal slots step rot ≡ 0) 
   is-giant =
       let l = inside slots (none (outside slots) 0 _ h .0) in
       let m = none _ 9 0 (none (outside step) 2 _ (none (outside slots) 0 _ h .1) .1) in
-      record { reduced = residue-lt rot slots (l .0); multiple = eqb-true _ 0 (holds (m .0)) }
+      record { reduced = residue-lt rot slots (l .0); multiple = eqb-true _ 0 (not-false _ (m .0)) }
 
   pub digit-low : mag (digit slots step (rotOf slots rot) .0) < 2 ^ 15
   digit-low = digit-small slots step step-positive (inside slots (none (outside slots) 0 _ h .0) .1) (rotOf slots rot) is-giant
