@@ -32,6 +32,28 @@ struct sibukyaran_signed_digit {
     int64_t value;
 };
 
+/* The numbers of babies, giants and diagonals of a plan beside a refusal; 0 where refused. */
+struct sibukyaran_plan_numbers {
+    uint32_t refusal;
+    uint32_t babies;
+    uint32_t giants;
+    uint32_t diagonals;
+};
+
+/* The numbers of passes and moves beside a refusal; 0 where refused. */
+struct sibukyaran_pass_numbers {
+    uint32_t refusal;
+    uint32_t passes;
+    size_t moves;
+};
+
+/* The bits and the number of pairs of a tree beside a refusal; 0 where refused, and where there is no tree. */
+struct sibukyaran_tree_numbers {
+    uint32_t refusal;
+    uint32_t bits;
+    size_t pairs;
+};
+
 /* a * b modulo 2^64. */
 uint64_t sibukyaran_wrapping_mul(uint64_t a, uint64_t b);
 
@@ -109,21 +131,19 @@ struct sibukyaran_numbers sibukyaran_transpose(size_t slots, size_t count, const
                                                const uint64_t *values, size_t values_len, uint32_t *pairs_out,
                                                size_t pairs_out_len, uint64_t *values_out, size_t values_out_len);
 
+/* ---- Strategies. A strategy is its kind and its giant step, which Direct has not: any number stands for it there. A
+ * kind that there is not is refused by 3. */
+#define SIBUKYARAN_BSGS 0
+#define SIBUKYARAN_BSGS_POWERS_OF_TWO 1
+#define SIBUKYARAN_DIRECT 2
+
 /* ---- The plain run: the product of a map and an input into the first slots words of out, the same for each strategy.
  *
  * 3: the giant step is outside 1..65536. 7: the input is not slots long. */
 
-uint32_t sibukyaran_evaluate_bsgs(size_t slots, size_t count, const uint32_t *pairs, size_t pairs_len,
-                                  const uint64_t *values, size_t values_len, const uint64_t *input, size_t input_len,
-                                  size_t giant_step, uint64_t *out, size_t out_len);
-
-uint32_t sibukyaran_evaluate_bsgs_powers_of_two(size_t slots, size_t count, const uint32_t *pairs, size_t pairs_len,
-                                                const uint64_t *values, size_t values_len, const uint64_t *input,
-                                                size_t input_len, size_t giant_step, uint64_t *out, size_t out_len);
-
-uint32_t sibukyaran_evaluate_direct(size_t slots, size_t count, const uint32_t *pairs, size_t pairs_len,
-                                    const uint64_t *values, size_t values_len, const uint64_t *input, size_t input_len,
-                                    uint64_t *out, size_t out_len);
+uint32_t sibukyaran_evaluate(size_t slots, size_t count, const uint32_t *pairs, size_t pairs_len,
+                             const uint64_t *values, size_t values_len, const uint64_t *input, size_t input_len,
+                             uint32_t strategy, size_t giant_step, uint64_t *out, size_t out_len);
 
 /* ---- Plans. */
 
@@ -136,6 +156,195 @@ struct sibukyaran_numbers sibukyaran_baby_multiple(int64_t baby, size_t baby_ste
 /* j of the giant rotation j * giant_step; where the step divides slots, the j of least magnitude, half the period being
  * negative. 1: slots. 3: the step. 10: the rotation's residue is no multiple of the step. */
 struct sibukyaran_signed_digit sibukyaran_giant_digit(int64_t rot, size_t giant_step, size_t slots);
+
+/* The plan of a list of diagonal indexes, of any order, with repeats, any of a residue's numbers: babies, giants, a pair
+ * (start, length) a giant, and the index that the pairs point into, back to back in plan.
+ *
+ * 1: slots. 3: the giant step. 12: plan is shorter than babies + 3 * giants + diagonals words. */
+struct sibukyaran_plan_numbers sibukyaran_linear_transformation_plan(const int64_t *indexes, size_t indexes_len,
+                                                                     size_t slots, size_t giant_step, uint32_t *plan,
+                                                                     size_t plan_len);
+
+/* The same by a strategy: with powers of two the babies are closed under clearing top bits. */
+struct sibukyaran_plan_numbers sibukyaran_linear_transform_index(const int64_t *indexes, size_t indexes_len,
+                                                                 size_t slots, uint32_t strategy, size_t giant_step,
+                                                                 uint32_t *plan, size_t plan_len);
+
+/* The plan's babies alone. */
+struct sibukyaran_numbers sibukyaran_baby_steps(const int64_t *indexes, size_t indexes_len, size_t slots,
+                                                uint32_t strategy, size_t giant_step, uint32_t *out, size_t out_len);
+
+/* The baby step of the plan with powers of two: the greatest common divisor of the babies, or 1 if that is 0. */
+struct sibukyaran_numbers sibukyaran_baby_step(const int64_t *indexes, size_t indexes_len, size_t slots,
+                                               size_t giant_step);
+
+/* The rotations that a run of the plan needs keys for, in the order of their first use. */
+struct sibukyaran_numbers sibukyaran_plan_key_rotations(const int64_t *indexes, size_t indexes_len, size_t slots,
+                                                        uint32_t strategy, size_t giant_step, uint32_t *out,
+                                                        size_t out_len);
+
+/* The number of key switches that a run of the plan makes. */
+struct sibukyaran_numbers sibukyaran_plan_key_switches(const int64_t *indexes, size_t indexes_len, size_t slots,
+                                                       uint32_t strategy, size_t giant_step);
+
+/* The best width: of the multiples of the smallest gap below slots, the largest of least cost. 1: slots. */
+struct sibukyaran_numbers sibukyaran_optimal_bsgs_giant_step(const int64_t *indexes, size_t indexes_len, size_t slots);
+
+/* ---- Rotations: a kind, a baby step, a giant step and slots, which count with powers of two only. Lists of babies and
+ * giants come in any order with repeats.
+ *
+ * With powers of two, 1: slots. 3: a step is outside 1..65536; also a kind that there is not. 9: a baby is negative, above
+ * 65535 or, with powers of two, no multiple of the baby step. 10: with powers of two, a giant's residue is no multiple of
+ * the giant step. 12: a lent output is too short. */
+#define SIBUKYARAN_PER_ROTATION 0
+#define SIBUKYARAN_POWERS_OF_TWO 1
+
+/* The babies, sorted and distinct, and with powers of two what is met by clearing top bits of their multiples. */
+struct sibukyaran_numbers sibukyaran_baby_closure(uint32_t rotations, size_t baby_step, size_t giant_step, size_t slots,
+                                                  const int64_t *babies, size_t babies_len, uint32_t *out,
+                                                  size_t out_len);
+
+/* The passes over the babies, in their order: a pass is two words (rotation, number of moves), a move two (source,
+ * target). None per rotation. */
+struct sibukyaran_pass_numbers sibukyaran_baby_passes(uint32_t rotations, size_t baby_step, size_t giant_step,
+                                                      size_t slots, const int64_t *babies, size_t babies_len,
+                                                      uint32_t *passes, size_t passes_len, uint32_t *moves,
+                                                      size_t moves_len);
+
+/* The rotations that the babies need keys for: those that are not 0, or the passes of their closure. */
+struct sibukyaran_numbers sibukyaran_baby_key_rotations(uint32_t rotations, size_t baby_step, size_t giant_step,
+                                                        size_t slots, const int64_t *babies, size_t babies_len,
+                                                        uint32_t *out, size_t out_len);
+
+/* The tree over the giants: a leaf a giant, two words (rotation, number of pairs) a level, two words (odd node, 1 if node
+ * odd - 1 is there) a pair. Per rotation there is none, and nothing is written. */
+struct sibukyaran_tree_numbers sibukyaran_giant_tree(uint32_t rotations, size_t baby_step, size_t giant_step,
+                                                     size_t slots, const int64_t *giants, size_t giants_len,
+                                                     uint32_t *leaves, size_t leaves_len, uint32_t *levels,
+                                                     size_t levels_len, uint32_t *pairs, size_t pairs_len);
+
+/* The rotations of the tree's levels that have pairs; none per rotation. */
+struct sibukyaran_numbers sibukyaran_giant_key_rotations(uint32_t rotations, size_t baby_step, size_t giant_step,
+                                                         size_t slots, const int64_t *giants, size_t giants_len,
+                                                         uint32_t *out, size_t out_len);
+
+/* The pairs of all levels; per rotation the giants that are not 0. */
+struct sibukyaran_numbers sibukyaran_giant_key_switches(uint32_t rotations, size_t baby_step, size_t giant_step,
+                                                        size_t slots, const int64_t *giants, size_t giants_len);
+
+/* ---- Matrix maps. A matrix slot is d * d slots, d = 2^log_d, with the entries of a d by d matrix row after row. Each call
+ * writes a map in front of pairs and values and answers the number of its pairs.
+ *
+ * 1: slots. 5: log_d is above 8, count is 0, or count * d * d does not divide slots. 6: the shift k exceeds d. 7: the public
+ * matrices are not count * d * d words, or the lists of terms differ in length. 8: a term is out of range. 12: pairs or
+ * values is too short.
+ *
+ * The maps that read one entry or none, and per_matrix_map, are stored at the smallest period that holds them. They need
+ * room for the map at period d * d; the values between the two totals are left in any state. */
+
+/* JKLS sigma: output (r, c) reads (r, r + c mod d). */
+struct sibukyaran_numbers sibukyaran_sigma(size_t slots, size_t log_d, uint32_t *pairs, size_t pairs_len,
+                                           uint64_t *values, size_t values_len);
+
+/* JKLS tau: output (r, c) reads (r + c mod d, c). */
+struct sibukyaran_numbers sibukyaran_tau(size_t slots, size_t log_d, uint32_t *pairs, size_t pairs_len,
+                                         uint64_t *values, size_t values_len);
+
+/* Output (r, c) reads (c, r). */
+struct sibukyaran_numbers sibukyaran_transpose_matrices(size_t slots, size_t log_d, uint32_t *pairs, size_t pairs_len,
+                                                        uint64_t *values, size_t values_len);
+
+/* JKLS psi^k: output (r, c) reads (r + k mod d, c). */
+struct sibukyaran_numbers sibukyaran_rotate_rows(size_t slots, size_t log_d, size_t k, uint32_t *pairs,
+                                                 size_t pairs_len, uint64_t *values, size_t values_len);
+
+/* JKLS phi^k: output (r, c) reads (r, c + k mod d). */
+struct sibukyaran_numbers sibukyaran_rotate_cols(size_t slots, size_t log_d, size_t k, uint32_t *pairs,
+                                                 size_t pairs_len, uint64_t *values, size_t values_len);
+
+/* Output (r, c) reads (r + k, c) where r + k < d, else 0. */
+struct sibukyaran_numbers sibukyaran_rows_upper(size_t slots, size_t log_d, size_t k, uint32_t *pairs,
+                                                size_t pairs_len, uint64_t *values, size_t values_len);
+
+/* Output (r, c) reads (r + k - d, c) where r + k >= d, else 0. */
+struct sibukyaran_numbers sibukyaran_rows_lower(size_t slots, size_t log_d, size_t k, uint32_t *pairs,
+                                                size_t pairs_len, uint64_t *values, size_t values_len);
+
+/* Output (r, c) reads (r, c + k) where c + k < d, else 0. */
+struct sibukyaran_numbers sibukyaran_cols_left(size_t slots, size_t log_d, size_t k, uint32_t *pairs,
+                                               size_t pairs_len, uint64_t *values, size_t values_len);
+
+/* Output (r, c) reads (r, c + k - d) where c + k >= d, else 0. */
+struct sibukyaran_numbers sibukyaran_cols_right(size_t slots, size_t log_d, size_t k, uint32_t *pairs,
+                                                size_t pairs_len, uint64_t *values, size_t values_len);
+
+/* Output (r, c) reads (r + k mod d, c) where c + k < d, else 0. */
+struct sibukyaran_numbers sibukyaran_rows_left(size_t slots, size_t log_d, size_t k, uint32_t *pairs,
+                                               size_t pairs_len, uint64_t *values, size_t values_len);
+
+/* Output (r, c) reads (r + k mod d, c) where c + k >= d, else 0. */
+struct sibukyaran_numbers sibukyaran_rows_right(size_t slots, size_t log_d, size_t k, uint32_t *pairs,
+                                                size_t pairs_len, uint64_t *values, size_t values_len);
+
+/* The slot map of the terms (i, j, w) at period d * d, shrunk. */
+struct sibukyaran_numbers sibukyaran_per_matrix_map(size_t slots, size_t log_d, const uint32_t *is, size_t is_len,
+                                                    const uint32_t *js, size_t js_len, const uint64_t *ws,
+                                                    size_t ws_len, uint32_t *pairs, size_t pairs_len,
+                                                    uint64_t *values, size_t values_len);
+
+/* tau on an input that repeats every d * d slots: a diagonal at each c * d, the mask of column c. */
+struct sibukyaran_numbers sibukyaran_tau_rep(size_t slots, size_t log_d, uint32_t *pairs, size_t pairs_len,
+                                             uint64_t *values, size_t values_len);
+
+/* rotate_rows on such an input: one diagonal at k * d. 6: k is not in 1..d-1. */
+struct sibukyaran_numbers sibukyaran_rotate_rows_rep(size_t slots, size_t log_d, size_t k, uint32_t *pairs,
+                                                     size_t pairs_len, uint64_t *values, size_t values_len);
+
+/* Output (r, c) reads (r, c) where r is 0, else 0. */
+struct sibukyaran_numbers sibukyaran_first_row(size_t slots, size_t log_d, uint32_t *pairs, size_t pairs_len,
+                                               uint64_t *values, size_t values_len);
+
+/* Output (r, c) reads (r, c) where c is 0, else 0. */
+struct sibukyaran_numbers sibukyaran_first_col(size_t slots, size_t log_d, uint32_t *pairs, size_t pairs_len,
+                                               uint64_t *values, size_t values_len);
+
+/* Products by public matrices b, count of them row after row, of which matrix slot s has number s mod count. Output (r, c)
+ * is the sum of in(r, l) * b(l, c). */
+struct sibukyaran_numbers sibukyaran_right_mul(size_t slots, size_t log_d, size_t count, const uint64_t *b,
+                                               size_t b_len, uint32_t *pairs, size_t pairs_len, uint64_t *values,
+                                               size_t values_len);
+
+/* Output (r, c) is the sum of b(r, l) * in(l, c). */
+struct sibukyaran_numbers sibukyaran_left_mul(size_t slots, size_t log_d, size_t count, const uint64_t *b,
+                                              size_t b_len, uint32_t *pairs, size_t pairs_len, uint64_t *values,
+                                              size_t values_len);
+
+/* Stage 2 of the right product, on the product of sigma. */
+struct sibukyaran_numbers sibukyaran_right_jkls(size_t slots, size_t log_d, size_t count, const uint64_t *b,
+                                                size_t b_len, uint32_t *pairs, size_t pairs_len, uint64_t *values,
+                                                size_t values_len);
+
+/* Stage 2 of the left product, on the product of tau. */
+struct sibukyaran_numbers sibukyaran_left_jkls(size_t slots, size_t log_d, size_t count, const uint64_t *b,
+                                               size_t b_len, uint32_t *pairs, size_t pairs_len, uint64_t *values,
+                                               size_t values_len);
+
+/* left_mul of one matrix on an input that repeats every d * d slots. */
+struct sibukyaran_numbers sibukyaran_left_mul_rep(size_t slots, size_t log_d, const uint64_t *b, size_t b_len,
+                                                  uint32_t *pairs, size_t pairs_len, uint64_t *values,
+                                                  size_t values_len);
+
+/* The product by the slot vector v rotated: one diagonal at offset 0. 1: slots. 4: v's length is 0 or does not divide slots. */
+struct sibukyaran_numbers sibukyaran_slot_product(size_t slots, const uint64_t *v, size_t v_len, int64_t rotation,
+                                                  uint32_t *pairs, size_t pairs_len, uint64_t *values,
+                                                  size_t values_len);
+
+/* Tau and sigma of public matrices, count * d * d words: entry (r, c) is b(r + c mod d, c), or b(r, r + c mod d). 5: log_d is
+ * above 8, count is 0, or count * d * d exceeds 65536. 7: b is not count * d * d words. */
+struct sibukyaran_numbers sibukyaran_tau_values(size_t log_d, size_t count, const uint64_t *b, size_t b_len,
+                                                uint64_t *out, size_t out_len);
+struct sibukyaran_numbers sibukyaran_sigma_values(size_t log_d, size_t count, const uint64_t *b, size_t b_len,
+                                                  uint64_t *out, size_t out_len);
 
 #ifdef __cplusplus
 }

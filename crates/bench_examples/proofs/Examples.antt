@@ -2,17 +2,23 @@
 -- Assumes nothing.
 use mathlib.Core.Path.{refl}
 use Rattle.ring.specs.Slots.{addm, mulm}
-use Rattle.ring.specs.Searches.{least, every, below}
-use Rattle.ring.specs.Divisors.{lcmOf}
+use Rattle.ring.specs.Searches.{least, greatest, every, below}
+use Rattle.ring.specs.Divisors.{gcdOf, lcmOf}
 use Rattle.ring.specs.Periods.{minPeriod, isPeriod, repeats}
 use Rattle.ring.specs.Rotations.{rotated}
 use Rattle.diagonals.specs.Products.{product}
 use Rattle.diagonals.specs.SlotMaps.{termsOf, slotMap}
 use Rattle.diagonals.specs.Transposing.{transposed}
-use Rattle.linear_transformation.specs.Plans.{named, diagonalsOf, babyOf, giantOf, babies, giants, babiesAt, planIndex, planPairs, planWords}
+use Rattle.diagonals.specs.Shrinking.{commonPeriod, shrunk}
+use Rattle.linear_transformation.specs.Plans.{named, diagonalsOf, babyOf, giantOf, babies, giants, babiesAt, planIndex, planPairs, wordsWith}
+use Rattle.linear_transformation.specs.Closures.{topBit, cleared, metIn, closure, targets, passes}
+use Rattle.linear_transformation.specs.Trees.{there, nodes, pairsAt, levelsOf, treeOf, treeKeys, treeSwitches}
+use Rattle.linear_transformation.specs.Schedules.{babyStep, babyMultiples, planBabies, planWords, planTree, planKeys, giantSwitches, planSwitches}
+use Rattle.linear_transformation.specs.Widths.{smallestGap, ownBabies, cost, candidate, cheapest, bestWidth}
 use Rattle.linear_transformation.specs.Digits.{digit, within, allWithin, largest, bitsOf, levelDigit, levelRotation}
+use Rattle.maps.specs.Readings.{reads, wholeMap, ruleMap}
 use Rattle.bench_examples.specs.BenchExamples.{BenchExamples}
 
 pub bench-examples : BenchExamples
-unfolding lcmOf least minPeriod isPeriod repeats every below addm mulm rotated product termsOf slotMap transposed named diagonalsOf babyOf giantOf babies giants babiesAt planIndex planPairs planWords digit within allWithin largest bitsOf levelDigit levelRotation
-bench-examples = record { e1 = refl; e2 = refl; e3 = refl; e4 = refl; e5 = refl; e6-babies = refl; e6-giants = refl; e6-index = refl; e8 = (refl, refl); e8-top = (refl, refl); e10-plan = refl; e12 = refl }
+unfolding gcdOf lcmOf least greatest minPeriod isPeriod repeats every below addm mulm rotated product termsOf slotMap transposed named diagonalsOf babyOf giantOf babies giants babiesAt planIndex planPairs wordsWith topBit cleared metIn closure targets passes there nodes pairsAt levelsOf treeOf treeKeys treeSwitches babyStep babyMultiples planBabies planWords planTree planKeys giantSwitches planSwitches smallestGap ownBabies cost candidate cheapest bestWidth digit within allWithin largest bitsOf levelDigit levelRotation commonPeriod shrunk reads wholeMap ruleMap
+bench-examples = record { e1 = refl; e2 = refl; e3 = refl; e4 = refl; e5 = refl; e6-babies = refl; e6-giants = refl; e6-index = refl; e7-digits = refl; e7-bits = refl; e7-keys = refl; e7-switches = (refl, refl); e8 = (refl, refl); e8-top = (refl, refl); e9 = refl; e9-costs = (refl, refl); e10-plan = refl; e10-keys = (refl, refl); e11 = refl; e12 = refl }

@@ -13,8 +13,14 @@ use Rattle.diagonals.specs.Products.{product}
 use Rattle.diagonals.specs.SlotMaps.{termsOf, slotMap}
 use Rattle.diagonals.specs.Transposing.{transposed}
 use Rattle.linear_transformation.specs.declared.digits.Rot.{Rot}
-use Rattle.linear_transformation.specs.Plans.{diagonalsOf, babies, giants, babiesAt, planWords}
+use Rattle.linear_transformation.specs.Plans.{diagonalsOf, babies, giants, babiesAt}
+use Rattle.linear_transformation.specs.declared.LinearTransformationStrategy.the-variants.{Bsgs, BsgsPowersOfTwo}
+use Rattle.linear_transformation.specs.Schedules.{planWords, planTree, planKeys, planSwitches}
+use Rattle.linear_transformation.specs.Trees.{digitsOf}
+use Rattle.linear_transformation.specs.Widths.{cost, bestWidth}
 use Rattle.linear_transformation.specs.Digits.{digit, bitsOf, levelRotation}
+use Rattle.maps.specs.declared.rules.Rule.the-variants.{Sigma}
+use Rattle.maps.specs.Readings.{ruleMap}
 
 -- a diagonal by its offset and values
 abbrev pub at : ℕ → List ℕ → Diagonal
@@ -27,6 +33,10 @@ e3Map = slotMap 4 2 (termsOf (0 ∷ 0 ∷ 1 ∷ []) (1 ∷ 1 ∷ 0 ∷ []) (5 �
 -- the diagonals of E6, of 16 slots
 abbrev pub e6Diagonals : List ℕ
 e6Diagonals = diagonalsOf 16 (pos 0 ∷ pos 1 ∷ pos 2 ∷ pos 5 ∷ pos 15 ∷ [])
+
+-- the diagonals of E9, of 8 slots
+abbrev pub e9Diagonals : List ℕ
+e9Diagonals = diagonalsOf 8 (pos 0 ∷ pos 2 ∷ pos 5 ∷ [])
 
 abbrev pub rotation : ℕ → Rot
 rotation n = record { 0 = n }
@@ -46,7 +56,15 @@ pub record BenchExamples : Type 0 where
   pub e6-babies : babies 16 4 e6Diagonals ≡ 0 ∷ 1 ∷ 2 ∷ 3 ∷ []
   pub e6-giants : giants 16 4 e6Diagonals ≡ 0 ∷ 4 ∷ 12 ∷ []
   pub e6-index : map (babiesAt 4 e6Diagonals) (giants 16 4 e6Diagonals) ≡ (0 ∷ 1 ∷ 2 ∷ []) ∷ (1 ∷ []) ∷ (3 ∷ []) ∷ []
+  pub e7-digits : map (λ d. d .0) (digitsOf 16 4 (map rotation (giants 16 4 e6Diagonals))) ≡ pos 0 ∷ pos 1 ∷ negℤ (pos 1) ∷ []
+  pub e7-bits : planTree 16 4 e6Diagonals .bits ≡ 2
+  pub e7-keys : planKeys 16 (BsgsPowersOfTwo 4) e6Diagonals ≡ 1 ∷ 2 ∷ 4 ∷ 8 ∷ []
+  pub e7-switches : (planSwitches 16 (BsgsPowersOfTwo 4) e6Diagonals ≡ 6) × (planSwitches 16 (Bsgs 4) e6Diagonals ≡ 5)
   pub e8 : (digit 16 4 (rotation 8) .0 ≡ negℤ (pos 2)) × (digit 10 4 (rotation 8) .0 ≡ pos 2)
   pub e8-top : (digit 20 4 (rotation 12) .0 ≡ negℤ (pos 2)) × (topRotation 20 4 (rotation 12 ∷ []) ≡ rotation 12)
-  pub e10-plan : planWords 16 4 (diagonalsOf 16 []) ≡ 0 ∷ []
+  pub e9 : bestWidth 8 e9Diagonals ≡ 6
+  pub e9-costs : (cost 8 e9Diagonals 6 ≡ 6) × (cost 8 e9Diagonals 3 ≡ 4)
+  pub e10-plan : planWords 16 (BsgsPowersOfTwo 4) (diagonalsOf 16 []) ≡ 0 ∷ []
+  pub e10-keys : (planKeys 16 (BsgsPowersOfTwo 4) (diagonalsOf 16 []) ≡ []) × (planKeys 16 (Bsgs 4) (diagonalsOf 16 []) ≡ [])
+  pub e11 : ruleMap 4 2 Sigma ≡ at 0 (1 ∷ 1 ∷ 0 ∷ 0 ∷ []) ∷ at 1 (0 ∷ 0 ∷ 1 ∷ 0 ∷ []) ∷ at 3 (0 ∷ 0 ∷ 0 ∷ 1 ∷ []) ∷ []
   pub e12 : mulm modulus (2 ^ 63) 2 ≡ 0

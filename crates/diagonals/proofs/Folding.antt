@@ -14,7 +14,8 @@ use Rattle.ring.specs.Laws.Divisors.{lcm-law, lcm-pos, lcmAll-snoc}
 use Rattle.ring.specs.Laws.Periods.{min-is, positive}
 use Rattle.diagonals.specs.Maps.{diagonalAt, lengthAt, startAt, view, WellFormed}
 use Rattle.diagonals.specs.Shrinking.{commonPeriod}
-use Rattle.diagonals.specs.Steps.{Range, Common}
+use Rattle.ring.specs.Refusals.{Range}
+use Rattle.diagonals.specs.Steps.{Common}
 use Rattle.diagonals.specs.Laws.Maps.{start-more, values-end, view-more, each-view, length-values}
 
 pub record Folding (slots count : ℕ) (pairs values : List ℕ) (period start i : ℕ) : Type 0 where

@@ -7,7 +7,9 @@ use mathlib.Core.List.{List, [], _∷_, _++_, map}
 use lib.Dec.{eqb, ltb}
 use lib.IntN.{ℤ}
 use lib.ListN.{length}
-use Rattle.ring.specs.Vectors.{inFront}
+use Rattle.ring.specs.Vectors.{inFront, filled}
+use Rattle.ring.specs.Searches.{below}
+use Rattle.ring.specs.Marks.{marks}
 use Rattle.ring.specs.Residues.{residueOf}
 use Rattle.ring.specs.Rotations.{rotated}
 use Rattle.ring.specs.Divisors.{divides}
@@ -19,7 +21,7 @@ use Rattle.diagonals.specs.declared.reading.Test.the-variants.{Refused, 
 use Rattle.diagonals.specs.Maps.{Diagonal, view, wellFormed, WellFormed}
 use Rattle.diagonals.specs.Products.{stretch}
 use Rattle.diagonals.specs.Setting.{placed, pairWords, valueWords}
-use Rattle.diagonals.specs.SlotMaps.{termsOf, inRange, slotMap}
+use Rattle.diagonals.specs.SlotMaps.{termsOf, inRange, rank, slotMap, zeroMap}
 
 -- ---- lent maps
 
@@ -98,6 +100,22 @@ slotMapRefusal slots period is js ws pairs values =
     ∷ (not (inRange slots period is js), 8)
     ∷ (noRoom (slotMap slots period (termsOf is js ws)) pairs values, 12)
     ∷ [])
+
+-- `zero_map` of the marked offsets
+abbrev pub marked : ℕ → List Bool → List ℕ
+marked slots seen = below (marks seen) slots
+
+abbrev pub periodRefusals : ℕ → ℕ → List (Bool × ℕ)
+periodRefusals slots period = (outside slots, 1) ∷ (noPeriod slots period, 4) ∷ []
+
+abbrev pub zeroMapRefusal : ℕ → ℕ → List Bool → List ℕ → List ℕ → ℕ
+zeroMapRefusal slots period seen pairs values =
+    firstOf (periodRefusals slots period ++ (noRoom (zeroMap period (marked slots seen)) pairs values, 12) ∷ [])
+
+-- an accepted call gives each number below slots its place among the marked
+pub record ZeroMapWritten (slots period : ℕ) (seen : List Bool) (places₀ places₁ pairs₀ pairs₁ values₀ values₁ : List ℕ) (r : Answer) : Type 0 where
+  pub written : MapWritten (zeroMapRefusal slots period seen pairs₀ values₀) (zeroMap period (marked slots seen)) pairs₀ pairs₁ values₀ values₁ r
+  pub places : length places₀ ≡ 65536 → places₁ ≡ onAccept (zeroMapRefusal slots period seen pairs₀ values₀) (filled (rank (marks seen)) slots places₀) places₀
 
 -- a call that is lent a map and writes the map ds into other buffers
 abbrev pub secondRefusal : ℕ → ℕ → List ℕ → List ℕ → List Diagonal → List ℕ → List ℕ → ℕ

@@ -8,6 +8,7 @@ pub mod Reading
 pub mod Changes
 pub mod Matrices
 pub mod SlotMaps
+pub mod Terms
 pub mod Shrinking
 pub mod Writing
 pub mod Transposing

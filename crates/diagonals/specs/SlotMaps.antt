@@ -44,9 +44,17 @@ weight slots k p t = cond (eqb (offsetOf slots t) k && eqb (t .i) p) (t .w) 0
 abbrev pub gathered : ℕ → ℕ → List Term → ℕ → Diagonal
 gathered slots period ts k = record { offset = k; values = tabulate period (λ p. sumBy modulus (weight slots k p) ts) }
 
+-- how many numbers below k pass: the place of k among them
+abbrev pub rank : (ℕ → Bool) → ℕ → ℕ
+rank p k = length (below p k)
+
 -- each diagonal that a term reaches, stored at the period, zero or not
 unfoldable pub slotMap : ℕ → ℕ → List Term → List Diagonal
 slotMap slots period ts = map (gathered slots period ts) (below (reached slots ts) slots)
+
+-- zeros at the offsets ks, stored at the period
+unfoldable pub zeroMap : ℕ → List ℕ → List Diagonal
+zeroMap period ks = map (λ k. record { offset = k; values = tabulate period (λ _. 0) }) ks
 
 -- output i + q·period sums w·input[(j + q·period) mod slots] over the terms (i, j, w)
 unfoldable pub slotSum : ℕ → ℕ → List Term → List ℕ → ℕ → ℕ → ℕ

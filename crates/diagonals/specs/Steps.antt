@@ -14,7 +14,7 @@ use Rattle.ring.specs.Searches.{every}
 use Rattle.diagonals.specs.Maps.{Diagonal, diagonalAt, offsetAt, startAt, formedAt, risesAt, view, WellFormed}
 use lib.IntN.{ℤ}
 use Rattle.diagonals.specs.Calls.{mapRefusal, gotten}
-use Rattle.ring.specs.Refusals.{noPeriod}
+use Rattle.ring.specs.Refusals.{Range, noPeriod}
 use Rattle.diagonals.specs.declared.setting.Change.{Change}
 use Rattle.diagonals.specs.Products.{stretch}
 
@@ -93,11 +93,6 @@ pub record Appending (src : List ℕ) (from len n at : ℕ) (pairs values : List
 pub record Appended (src : List ℕ) (from offset len n at : ℕ) (pairs₀ pairs values₀ values : List ℕ) : Type 0 where
   pub pair : pairs ≡ set (set pairs₀ (2 * n) offset) (2 * n + 1) len
   pub period : values ≡ take at values₀ ++ (tabulate len (spin src from) ++ drop (at + len) values₀)
-
--- in 1..=65536
-pub record Range (n : ℕ) : Type 0 where
-  pub low : 1 ≤ n
-  pub high : n ≤ 65536
 
 -- the common period of a map's diagonals
 pub record Common (ds : List Diagonal) (r : ℕ) : Type 0 where

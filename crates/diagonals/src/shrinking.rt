@@ -4,10 +4,12 @@ ghost use Prim.Native.Nat.{_*_, _≤_};
 ghost use lib.ListN.{length};
 ghost use Rattle.ring.specs.Divisors.{lcmOf};
 ghost use Rattle.ring.specs.Periods.{minPeriod};
+ghost use Rattle.ring.specs.Answers.{answered};
 ghost use Rattle.diagonals.specs.Maps.{view, WellFormed};
-ghost use Rattle.diagonals.specs.Shrinking.{shrunk};
-ghost use Rattle.diagonals.specs.Calls.{secondRefusal, MapWritten};
-ghost use Rattle.diagonals.specs.Steps.{Range, Common, Shrinking, Shrunk};
+ghost use Rattle.diagonals.specs.Shrinking.{commonPeriod, shrunk};
+ghost use Rattle.diagonals.specs.Calls.{mapRefusal, secondRefusal, MapWritten};
+ghost use Rattle.ring.specs.Refusals.{Range};
+ghost use Rattle.diagonals.specs.Steps.{Common, Shrinking, Shrunk};
 
 // The smallest period of a stored one, which `min_period` does not refuse.
 fn smallest(v: &[u64]) -> usize
@@ -48,6 +50,17 @@ fn common_period(slots: usize, count: usize, pairs: &[u32], values: &[u64]) -> u
         i += 1;
     }
     period
+}
+
+// The least common multiple of the diagonals' smallest periods: the period that shrinking stores.
+pub fn shrunk_period(slots: usize, count: usize, pairs: &[u32], values: &[u64]) -> ring::Answer
+    ensures { λ r. ⌜ r ≡ answered (mapRefusal slots count (now (pairs .entry)) (now (values .entry))) (commonPeriod (view count (now (pairs .entry)) (now (values .entry)))) ⌝ }
+{
+    let code = crate::map_refusal(slots, count, pairs, values);
+    if code != 0 {
+        return ring::Answer::Refused(code);
+    }
+    ring::Answer::Is(common_period(slots, count, pairs, values))
 }
 
 fn write_shrunk(

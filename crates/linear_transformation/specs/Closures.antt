@@ -66,3 +66,7 @@ passes b step cached = join (λ i. passOf step i (targets cached i)) (tabulate b
 -- the rotations that passes ask keys for
 abbrev pub passRotations : ℕ → ℕ → List ℕ → List ℕ
 passRotations b step cached = map (λ p. p .rotation) (passes b step cached)
+
+-- those of the numbers that are not 0
+abbrev pub nonzeros : List ℕ → List ℕ
+nonzeros ks = join (λ k. only (not (eqb k 0)) k) ks

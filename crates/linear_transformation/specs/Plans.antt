@@ -74,10 +74,10 @@ cuts f start (g ∷ gs) = (start, length (f g)) ∷ cuts f (start + length (f g)
 unfoldable pub planPairs : ℕ → ℕ → List ℕ → List (ℕ × ℕ)
 planPairs slots width diagonals = cuts (babiesAt width diagonals) 0 (giants slots width diagonals)
 
--- the plan's words: babies, giants, pairs, index, back to back
-unfoldable pub planWords : ℕ → ℕ → List ℕ → List ℕ
-planWords slots width diagonals =
-    babies slots width diagonals
+-- the plan's words over its babies bs: babies, giants, pairs, index, back to back
+unfoldable pub wordsWith : List ℕ → ℕ → ℕ → List ℕ → List ℕ
+wordsWith bs slots width diagonals =
+    bs
     ++ giants slots width diagonals
     ++ join (λ c. c .0 ∷ c .1 ∷ []) (planPairs slots width diagonals)
     ++ planIndex slots width diagonals

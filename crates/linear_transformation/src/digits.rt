@@ -1,9 +1,11 @@
-// Baby multiples and giant digits. A digit and a rotation are two types, and only `digit_of` leads
-// from the one to the other.
+// Baby multiples and giant digits. A digit and a rotation are two types: only `digit_of` leads from a
+// rotation to its digit, and only `rotation_of` of a tree's levels back.
 ghost use mathlib.Core.Path.{_≡_};
 ghost use Rattle.ring.specs.Answers.{answered};
+ghost use Rattle.ring.specs.Refusals.{Range};
 ghost use Rattle.linear_transformation.specs.Digits.{rotOf, digit};
-ghost use Rattle.linear_transformation.specs.Calls.{babyRefusal, babyMultiple, digitRefusal, digitAnswered};
+ghost use Rattle.linear_transformation.specs.Rotations.{noBaby, babyMultiple};
+ghost use Rattle.linear_transformation.specs.Calls.{babyRefusal, digitRefusal, digitAnswered};
 ghost use Rattle.linear_transformation.specs.Steps.{Digitable};
 
 // A rotation, reduced modulo slots.
@@ -18,6 +20,20 @@ pub enum DigitAnswer {
     Is(Digit),
 }
 
+// Whether a baby is negative, above 65,535 or no multiple of the step: the test of refusal 9.
+pub(crate) fn is_no_baby(baby: i64, step: usize) -> bool
+    requires { ⌜ Range step ⌝ }
+    ensures { λ r. ⌜ r ≡ noBaby baby step ⌝ }
+{
+    if baby < 0 {
+        return true;
+    }
+    if 65535 < baby {
+        return true;
+    }
+    baby as usize % step != 0
+}
+
 // k of the baby rotation k·baby_step. Refuses with 3 a step outside 1..=65536, with 9 a baby that is
 // negative, above 65,535 or no multiple of the step.
 pub fn baby_multiple(baby: i64, baby_step: usize) -> ring::Answer
@@ -26,22 +42,15 @@ pub fn baby_multiple(baby: i64, baby_step: usize) -> ring::Answer
     if ring::is_outside(baby_step) {
         return ring::Answer::Refused(3);
     }
-    if baby < 0 {
+    if is_no_baby(baby, baby_step) {
         return ring::Answer::Refused(9);
     }
-    if 65535 < baby {
-        return ring::Answer::Refused(9);
-    }
-    let k = baby as usize;
-    if k % baby_step != 0 {
-        return ring::Answer::Refused(9);
-    }
-    ring::Answer::Is(k / baby_step)
+    ring::Answer::Is(baby as usize / baby_step)
 }
 
 // j of the rotation j·step; where the step divides slots, the j of least magnitude, half the period
 // being negative.
-fn digit_of(rot: Rot, step: u32, slots: u32) -> Digit
+pub(crate) fn digit_of(rot: Rot, step: u32, slots: u32) -> Digit
     requires { ⌜ Digitable slots step (rot .0) ⌝ }
     ensures { λ r. ⌜ r ≡ digit slots step rot ⌝ }
 {

@@ -1,13 +1,41 @@
-// Strategies of a linear transformation, baby multiples and giant digits (poulpy's
+// Strategies of a linear transformation: plans, their babies, keys and switches; baby multiples and giant
+// digits; closure, passes, trees and keys of lists of babies and giants; and the best width (poulpy's
 // linear_transformation.rs). Numbers of refusals are those of document 01.
+mod babies;
 mod digits;
+mod giants;
+mod heap;
+mod keys;
+mod marks;
+mod plan;
+mod rotations;
+mod sorting;
+mod widths;
 
+pub use babies::baby_closure;
+pub use babies::baby_key_rotations;
+pub use babies::baby_passes;
 pub use digits::Digit;
 pub use digits::DigitAnswer;
 pub use digits::Rot;
 pub use digits::baby_multiple;
 pub use digits::giant_digit;
+pub use giants::giant_key_rotations;
+pub use giants::giant_key_switches;
+pub use giants::giant_tree;
+pub use keys::baby_step;
+pub use keys::baby_steps;
+pub use keys::plan_key_rotations;
+pub use keys::plan_key_switches;
+pub use plan::PlanAnswer;
+pub use plan::linear_transform_index;
+pub use plan::linear_transformation_plan;
+pub use rotations::BsgsRotations;
+pub use rotations::PassesAnswer;
+pub use rotations::TreeAnswer;
+pub use widths::optimal_bsgs_giant_step;
 ghost use mathlib.Core.Path.{_≡_};
+ghost use Prim.Native.Nat.{max};
 ghost use Rattle.ring.specs.Residues.{residueOf};
 ghost use Rattle.ring.specs.Answers.{answered};
 ghost use Rattle.linear_transformation.specs.Strategies.{widthOutside};
@@ -17,6 +45,13 @@ pub enum LinearTransformationStrategy {
     Bsgs { giant_step: usize },
     BsgsPowersOfTwo { giant_step: usize },
     Direct,
+}
+
+// The larger of two numbers.
+fn larger(a: u32, b: u32) -> u32
+    ensures { λ r. ⌜ r ≡ max a b ⌝ }
+{
+    if a < b { b } else { a }
 }
 
 // Whether the strategy's width is below 1 or above 65,536: the test of refusal 3.

@@ -1,6 +1,7 @@
 // Answers the recorded calls: reads them from standard input and writes the answers, a line each,
 // for the comparison with the Rust's recorded answers (docs/SAMPLE.md has the format).
 mod map_calls;
+mod matrix_calls;
 mod numbers;
 mod plan_calls;
 mod reading;
@@ -22,6 +23,17 @@ fn show_call(code: u64, words: &[u64]) {
         17 => plan_calls::show_normal(words),
         18 => plan_calls::show_multiple(words),
         19 => plan_calls::show_digit(words),
+        20 | 21 | 22 | 23 | 24 | 25 => plan_calls::show_plan_call(code, words),
+        26 | 27 | 28 | 29 => plan_calls::show_rotations_call(code, words),
+        30 => plan_calls::show_passes(words),
+        31 => plan_calls::show_tree(words),
+        32 => matrix_calls::show_rule(words),
+        33 => matrix_calls::show_tiled(words),
+        34 => matrix_calls::show_rows_rep(words),
+        35 => matrix_calls::show_matrix_product(words),
+        36 => matrix_calls::show_left_rep(words),
+        37 => matrix_calls::show_values(words),
+        38 => matrix_calls::show_slot_product(words),
         7 | 8 | 11 | 12 | 13 | 14 | 15 => map_calls::show_map_call(code, words),
         _ => {}
     }

@@ -4,6 +4,7 @@
 use crate::numbers::copy_into;
 use crate::numbers::narrow_into;
 use crate::numbers::signed;
+use crate::numbers::strategy;
 use crate::showing::show;
 use crate::showing::show_answer;
 use crate::showing::show_narrow_words;
@@ -325,18 +326,6 @@ fn show_transposed(
     show_written(a, pairs_out, values_out);
 }
 
-fn strategy(kind: u64, width: usize) -> linear_transformation::LinearTransformationStrategy {
-    if kind == 0 {
-        return linear_transformation::LinearTransformationStrategy::Bsgs { giant_step: width };
-    }
-    if kind == 1 {
-        return linear_transformation::LinearTransformationStrategy::BsgsPowersOfTwo {
-            giant_step: width,
-        };
-    }
-    linear_transformation::LinearTransformationStrategy::Direct
-}
-
 // The head is the strategy's kind and width, the length of out, that of the input, the input.
 fn show_product(
     head: &[u64],
@@ -347,9 +336,6 @@ fn show_product(
     out: &mut [u64],
 ) {
     if head.len() < 4 {
-        return;
-    }
-    if head[0] > 2 {
         return;
     }
     let s = strategy(head[0], head[1] as usize);

@@ -31,3 +31,31 @@ pub(crate) fn copy_into(words: &[u64], out: &mut [u64])
         out[i] = words[i];
     }
 }
+
+// The words as signed numbers, in front of out.
+pub(crate) fn signed_into(words: &[u64], out: &mut [i64])
+    requires { ⌜ length (now words) ≤ length (now out) ⌝ }
+{
+    for i in 0..words.len() {
+        out[i] = signed(words[i]);
+    }
+}
+
+// The strategy of a kind; a kind that there is not has no width.
+pub(crate) fn strategy(
+    kind: u64,
+    width: usize,
+) -> linear_transformation::LinearTransformationStrategy {
+    if kind == 0 {
+        return linear_transformation::LinearTransformationStrategy::Bsgs { giant_step: width };
+    }
+    if kind == 1 {
+        return linear_transformation::LinearTransformationStrategy::BsgsPowersOfTwo {
+            giant_step: width,
+        };
+    }
+    if kind == 2 {
+        return linear_transformation::LinearTransformationStrategy::Direct;
+    }
+    linear_transformation::LinearTransformationStrategy::Bsgs { giant_step: 0 }
+}

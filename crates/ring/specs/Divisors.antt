@@ -22,3 +22,8 @@ lcmOf a b = least (λ m. divides a m && divides b m) (a * b)
 abbrev pub lcmAll : List ℕ → ℕ
 lcmAll [] = 1
 lcmAll (x ∷ xs) = lcmOf x (lcmAll xs)
+
+-- the greatest common divisor of all numbers of a list; 0 of none
+abbrev pub gcdAll : List ℕ → ℕ
+gcdAll [] = 0
+gcdAll (x ∷ xs) = gcdOf x (gcdAll xs)

@@ -7,6 +7,7 @@ pub mod Rotations
 pub mod Refusals
 pub mod Answers
 pub mod Searches
+pub mod Marks
 pub mod Divisors
 pub mod Periods
 pub mod Calls

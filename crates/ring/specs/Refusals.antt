@@ -1,6 +1,6 @@
 -- Document 01, "Refusals, in checking order".
 -- Assumes nothing.
-use Prim.Native.Nat.{ℕ, zero, suc}
+use Prim.Native.Nat.{ℕ, zero, suc, _≤_}
 use mathlib.Core.Bool.{Bool, true, false, not, _||_}
 use mathlib.Core.List.{List, [], _∷_}
 use lib.Dec.{ltb, eqb}
@@ -23,6 +23,11 @@ onAccept (suc e) a b = b
 -- below 1 or above 65,536: the condition of 1 for slots and of 3 for a width, a step, a period or a length
 abbrev pub outside : ℕ → Bool
 outside n = ltb n 1 || ltb 65536 n
+
+-- what is not outside: in 1..=65536
+pub record Range (n : ℕ) : Type 0 where
+  pub low : 1 ≤ n
+  pub high : n ≤ 65536
 
 -- 0 or no divisor of slots: the condition of 4 for a period or a length of values
 abbrev pub noPeriod : ℕ → ℕ → Bool

@@ -1,7 +1,7 @@
 // Slot arithmetic modulo 2^64, residues and periods (poulpy's diagonals.rs, and gcd_i64 of
 // linear_transformation.rs). Numbers of refusals are those of document 01.
 ghost use mathlib.Core.Path.{_≡_};
-ghost use Prim.Native.Nat.{_≤_, min};
+ghost use Prim.Native.Nat.{_%_, _≤_, min};
 ghost use lib.ListN.{length};
 ghost use lib.Signed.{mag};
 ghost use Rattle.ring.specs.Slots.{modulus, mulm};
@@ -89,6 +89,18 @@ fn magnitude(x: i64) -> u64
     x as u64
 }
 
+// The remainder of a modulo m. Most numbers are reduced already, and a division takes longer than
+// all else that is done with them.
+fn remainder(a: u64, m: u32) -> u32
+    requires { ⌜ 1 ≤ m ⌝ }
+    ensures { λ r. ⌜ r ≡ a % m ⌝ }
+{
+    if a < m as u64 {
+        return a as u32;
+    }
+    (a % (m as u64)) as u32
+}
+
 // The least non-negative residue of x modulo m; 0 where m is 0.
 pub fn residue(x: i64, m: u32) -> u32
     ensures { λ r. ⌜ r ≡ residueOf x m ⌝ }
@@ -96,7 +108,7 @@ pub fn residue(x: i64, m: u32) -> u32
     if m == 0 {
         return 0;
     }
-    let d = (magnitude(x) % (m as u64)) as u32;
+    let d = remainder(magnitude(x), m);
     if x < 0 {
         return m - 1 - d;
     }

@@ -10,12 +10,23 @@ use lib.ListN.{length}
 use Rattle.ring.specs.Vectors.{inFront}
 use Rattle.ring.specs.Refusals.{firstOf, onAccept}
 use Rattle.ring.specs.Answers.{numbers, answered}
+use Rattle.ring.specs.declared.Answer.{Answer}
 use Rattle.diagonals.specs.Maps.{Diagonal, view}
 use Rattle.diagonals.specs.Setting.{pairWords, valueWords}
 use Rattle.diagonals.specs.Calls.{mapRefusals, gotten, indexesRefusal}
+use Rattle.maps.specs.Calls.{ShrunkWritten, ValuesWritten}
 use Rattle.sibukyaran.specs.declared.Numbers.{Numbers}
 use Rattle.sibukyaran.specs.declared.Truth.{Truth}
+use Rattle.linear_transformation.specs.declared.LinearTransformationStrategy.{LinearTransformationStrategy}
+use Rattle.linear_transformation.specs.declared.plan.PlanAnswer.{PlanAnswer}
+use Rattle.linear_transformation.specs.declared.rotations.BsgsRotations.{BsgsRotations}
+use Rattle.linear_transformation.specs.declared.rotations.PassesAnswer.{PassesAnswer}
+use Rattle.linear_transformation.specs.declared.rotations.TreeAnswer.{TreeAnswer}
+use Rattle.linear_transformation.specs.Calls.{ListWritten, planNumbers, PlanWritten, passNumbers, PassesWritten, treeNumbers, TreeWritten}
 use Rattle.sibukyaran.specs.declared.SignedDigit.{SignedDigit}
+use Rattle.sibukyaran.specs.declared.PlanNumbers.{PlanNumbers}
+use Rattle.sibukyaran.specs.declared.PassNumbers.{PassNumbers}
+use Rattle.sibukyaran.specs.declared.TreeNumbers.{TreeNumbers}
 
 abbrev pub told : Numbers → ℕ × ℕ
 told r = (r .refusal, r .value)
@@ -45,3 +56,47 @@ getRefusal slots count pairs values index out =
 pub record GetTold (slots count : ℕ) (pairs values : List ℕ) (index : ℤ) (old new : List ℕ) (r : Numbers) : Type 0 where
   pub answer : told r ≡ numbers (answered (getRefusal slots count pairs values index old) (length (gotten slots count pairs values index)))
   pub out : new ≡ onAccept (getRefusal slots count pairs values index old) (inFront (gotten slots count pairs values index) old) old
+
+-- ---- plans and rotations
+
+abbrev pub toldPlan : PlanNumbers → List ℕ
+toldPlan r = r .refusal ∷ r .babies ∷ r .giants ∷ r .diagonals ∷ []
+
+abbrev pub toldPasses : PassNumbers → List ℕ
+toldPasses r = r .refusal ∷ r .passes ∷ r .moves ∷ []
+
+abbrev pub toldTree : TreeNumbers → List ℕ
+toldTree r = r .refusal ∷ r .bits ∷ r .pairs ∷ []
+
+-- what a call of the crate below leaves, its answer told by its numbers
+pub record ListTold (cs : List (Bool × ℕ)) (result old new : List ℕ) (r : Numbers) : Type 0 where
+  pub answer : Answer
+  pub tells : told r ≡ numbers answer
+  pub written : ListWritten cs result old new answer
+
+pub record PlanTold (slots : ℕ) (strategy : LinearTransformationStrategy) (indexes : List ℤ) (old new : List ℕ) (r : PlanNumbers) : Type 0 where
+  pub answer : PlanAnswer
+  pub tells : toldPlan r ≡ planNumbers answer
+  pub written : PlanWritten slots strategy indexes old new answer
+
+pub record PassesTold (rotations : BsgsRotations) (bs : List ℤ) (passes passes' moves moves' : List ℕ) (r : PassNumbers) : Type 0 where
+  pub answer : PassesAnswer
+  pub tells : toldPasses r ≡ passNumbers answer
+  pub written : PassesWritten rotations bs passes passes' moves moves' answer
+
+pub record TreeTold (rotations : BsgsRotations) (gs : List ℤ) (leaves leaves' levels levels' pairs pairs' : List ℕ) (r : TreeNumbers) : Type 0 where
+  pub answer : TreeAnswer
+  pub tells : toldTree r ≡ treeNumbers answer
+  pub written : TreeWritten rotations gs leaves leaves' levels levels' pairs pairs' answer
+
+-- ---- matrix maps
+
+pub record ShrunkTold (e : ℕ) (whole : List Diagonal) (pairs₀ pairs₁ values₀ values₁ : List ℕ) (r : Numbers) : Type 0 where
+  pub answer : Answer
+  pub tells : told r ≡ numbers answer
+  pub written : ShrunkWritten e whole pairs₀ pairs₁ values₀ values₁ answer
+
+pub record ValuesTold (rows : Bool) (logD count : ℕ) (b old new : List ℕ) (r : Numbers) : Type 0 where
+  pub answer : Answer
+  pub tells : told r ≡ numbers answer
+  pub written : ValuesWritten rows logD count b old new answer

@@ -4,7 +4,7 @@ use std::hint::black_box;
 use std::process::ExitCode;
 use std::time::{Duration, Instant};
 
-use crate::{diagonals, ring, runs};
+use crate::{diagonals, matrices, plans, ring, runs};
 
 pub use std::hint::black_box as keep;
 
@@ -74,6 +74,8 @@ pub fn run() -> ExitCode {
     let mut bench = Bench::default();
     ring::bench(&mut bench);
     diagonals::bench(&mut bench);
+    plans::bench(&mut bench);
+    matrices::bench(&mut bench);
     runs::bench(&mut bench);
     println!("{} missed", bench.missed);
     ExitCode::from((bench.missed > 0) as u8)

@@ -69,14 +69,14 @@ pub fn right_map_refusal(map: Map) -> u32 {
 }
 
 /// A result in front of what a buffer held, or refusal 12 and what it held.
-fn in_front<T: Copy>(result: &[T], held: &[T]) -> Option<Vec<T>> {
+pub fn in_front<T: Copy>(result: &[T], held: &[T]) -> Option<Vec<T>> {
     (result.len() <= held.len()).then(|| [result, &held[result.len()..]].concat())
 }
 
 /// What a call that writes a map answers and leaves, for buffers that held these words.
 type Written = (Numbers, Vec<u32>, Vec<u64>);
 
-fn right_written(refusal: u32, map: impl FnOnce() -> Stored, pairs: &[u32], values: &[u64]) -> Written {
+pub fn right_written(refusal: u32, map: impl FnOnce() -> Stored, pairs: &[u32], values: &[u64]) -> Written {
     let refused = |e| (Numbers::refused(e), pairs.to_vec(), values.to_vec());
     if refusal != 0 {
         return refused(refusal);
@@ -89,7 +89,7 @@ fn right_written(refusal: u32, map: impl FnOnce() -> Stored, pairs: &[u32], valu
 }
 
 /// Ours, with the words around the buffers watched.
-fn written(pairs: &[u32], values: &[u64], call: impl FnOnce(&mut [u32], &mut [u64]) -> Numbers) -> (Written, bool) {
+pub fn written(pairs: &[u32], values: &[u64], call: impl FnOnce(&mut [u32], &mut [u64]) -> Numbers) -> (Written, bool) {
     let (mut p, mut v) = (Lent::new(pairs), Lent::new(values));
     let answer = call(p.part(), v.part());
     let ((p, p_kept), (v, v_kept)) = (p.back(), v.back());

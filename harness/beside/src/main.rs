@@ -5,8 +5,11 @@
 
 mod bench;
 mod diagonals;
+mod keys;
 mod linear_transformation;
+mod matrices;
 mod ours;
+mod plans;
 mod random;
 mod ring;
 mod runs;
@@ -24,6 +27,9 @@ fn compare() -> ExitCode {
         ring::compare(&mut tally);
         diagonals::compare(&mut tally);
         linear_transformation::compare(&mut tally);
+        plans::compare(&mut tally);
+        keys::compare(&mut tally);
+        matrices::compare(&mut tally);
         runs::compare(&mut tally);
         sample::compare(&mut tally);
         tally.close()

@@ -1,6 +1,7 @@
 //! The proved library (include/sibukyaran.h), wrapped safely. Nothing checks these declarations against the library
 //! but the comparison itself.
 
+use poulpy_core::layouts::BsgsRotations as Rotations;
 use poulpy_core::layouts::LinearTransformationStrategy as Strategy;
 
 #[repr(C)]
@@ -34,6 +35,34 @@ pub struct SignedDigit {
     pub value: i64,
 }
 
+/// The numbers of babies, giants and diagonals of a plan.
+#[repr(C)]
+#[derive(Clone, Copy, PartialEq, Eq, Debug)]
+pub struct PlanNumbers {
+    pub refusal: u32,
+    pub babies: u32,
+    pub giants: u32,
+    pub diagonals: u32,
+}
+
+/// The numbers of passes and moves.
+#[repr(C)]
+#[derive(Clone, Copy, PartialEq, Eq, Debug)]
+pub struct PassNumbers {
+    pub refusal: u32,
+    pub passes: u32,
+    pub moves: usize,
+}
+
+/// The bits and the number of pairs of a tree; no bits where there is no tree.
+#[repr(C)]
+#[derive(Clone, Copy, PartialEq, Eq, Debug)]
+pub struct TreeNumbers {
+    pub refusal: u32,
+    pub bits: u32,
+    pub pairs: usize,
+}
+
 /// A lent map.
 #[derive(Clone, Copy, Debug)]
 pub struct Map<'a> {
@@ -44,7 +73,7 @@ pub struct Map<'a> {
 }
 
 mod c {
-    use super::{Numbers, SignedDigit, Truth};
+    use super::{Numbers, PassNumbers, PlanNumbers, SignedDigit, TreeNumbers, Truth};
 
     unsafe extern "C" {
         pub safe fn sibukyaran_wrapping_mul(a: u64, b: u64) -> u64;
@@ -117,9 +146,127 @@ mod c {
         sibukyaran_get_into(index: i64, out: *mut u64, out_len: usize) -> Numbers;
         sibukyaran_shrink_period(po: *mut u32, pon: usize, vo: *mut u64, von: usize) -> Numbers;
         sibukyaran_transpose(po: *mut u32, pon: usize, vo: *mut u64, von: usize) -> Numbers;
-        sibukyaran_evaluate_bsgs(input: *const u64, n: usize, giant_step: usize, out: *mut u64, m: usize) -> u32;
-        sibukyaran_evaluate_bsgs_powers_of_two(input: *const u64, n: usize, giant_step: usize, out: *mut u64, m: usize) -> u32;
-        sibukyaran_evaluate_direct(input: *const u64, n: usize, out: *mut u64, m: usize) -> u32;
+        sibukyaran_evaluate(input: *const u64, n: usize, kind: u32, giant_step: usize, out: *mut u64, m: usize) -> u32;
+    }
+
+    /// Functions that build a map: their own arguments, then the lent pairs and values.
+    macro_rules! building {
+        ($($name:ident($($arg:ident: $type:ty),*);)*) => {
+            unsafe extern "C" {
+                $(pub fn $name(
+                    slots: usize,
+                    $($arg: $type,)*
+                    pairs: *mut u32,
+                    pairs_len: usize,
+                    values: *mut u64,
+                    values_len: usize
+                ) -> Numbers;)*
+            }
+        };
+    }
+
+    building! {
+        sibukyaran_sigma(log_d: usize);
+        sibukyaran_tau(log_d: usize);
+        sibukyaran_transpose_matrices(log_d: usize);
+        sibukyaran_rotate_rows(log_d: usize, k: usize);
+        sibukyaran_rotate_cols(log_d: usize, k: usize);
+        sibukyaran_rows_upper(log_d: usize, k: usize);
+        sibukyaran_rows_lower(log_d: usize, k: usize);
+        sibukyaran_cols_left(log_d: usize, k: usize);
+        sibukyaran_cols_right(log_d: usize, k: usize);
+        sibukyaran_rows_left(log_d: usize, k: usize);
+        sibukyaran_rows_right(log_d: usize, k: usize);
+        sibukyaran_tau_rep(log_d: usize);
+        sibukyaran_first_row(log_d: usize);
+        sibukyaran_first_col(log_d: usize);
+        sibukyaran_rotate_rows_rep(log_d: usize, k: usize);
+        sibukyaran_right_mul(log_d: usize, count: usize, b: *const u64, b_len: usize);
+        sibukyaran_left_mul(log_d: usize, count: usize, b: *const u64, b_len: usize);
+        sibukyaran_right_jkls(log_d: usize, count: usize, b: *const u64, b_len: usize);
+        sibukyaran_left_jkls(log_d: usize, count: usize, b: *const u64, b_len: usize);
+        sibukyaran_left_mul_rep(log_d: usize, b: *const u64, b_len: usize);
+        sibukyaran_slot_product(v: *const u64, v_len: usize, rotation: i64);
+        sibukyaran_per_matrix_map(
+            log_d: usize,
+            is: *const u32,
+            is_len: usize,
+            js: *const u32,
+            js_len: usize,
+            ws: *const u64,
+            ws_len: usize
+        );
+    }
+
+    unsafe extern "C" {
+        pub fn sibukyaran_tau_values(
+            log_d: usize,
+            count: usize,
+            b: *const u64,
+            b_len: usize,
+            out: *mut u64,
+            m: usize,
+        ) -> Numbers;
+        pub fn sibukyaran_sigma_values(
+            log_d: usize,
+            count: usize,
+            b: *const u64,
+            b_len: usize,
+            out: *mut u64,
+            m: usize,
+        ) -> Numbers;
+    }
+
+    /// Functions of diagonal indexes: the list and the slots, then the others.
+    macro_rules! on_indexes {
+        ($($name:ident($($arg:ident: $type:ty),*) -> $answer:ty;)*) => {
+            unsafe extern "C" {
+                $(pub fn $name(indexes: *const i64, n: usize, slots: usize, $($arg: $type),*) -> $answer;)*
+            }
+        };
+    }
+
+    on_indexes! {
+        sibukyaran_linear_transformation_plan(giant_step: usize, plan: *mut u32, m: usize) -> PlanNumbers;
+        sibukyaran_linear_transform_index(kind: u32, giant_step: usize, plan: *mut u32, m: usize) -> PlanNumbers;
+        sibukyaran_baby_steps(kind: u32, giant_step: usize, out: *mut u32, m: usize) -> Numbers;
+        sibukyaran_baby_step(giant_step: usize) -> Numbers;
+        sibukyaran_plan_key_rotations(kind: u32, giant_step: usize, out: *mut u32, m: usize) -> Numbers;
+        sibukyaran_plan_key_switches(kind: u32, giant_step: usize) -> Numbers;
+        sibukyaran_optimal_bsgs_giant_step() -> Numbers;
+    }
+
+    /// Functions of rotations and a list of babies or giants: the rotations' four arguments and the list, then the others.
+    macro_rules! on_rotations {
+        ($($name:ident($($arg:ident: $type:ty),*) -> $answer:ty;)*) => {
+            unsafe extern "C" {
+                $(pub fn $name(
+                    kind: u32,
+                    baby_step: usize,
+                    giant_step: usize,
+                    slots: usize,
+                    list: *const i64,
+                    n: usize,
+                    $($arg: $type),*
+                ) -> $answer;)*
+            }
+        };
+    }
+
+    on_rotations! {
+        sibukyaran_baby_closure(out: *mut u32, m: usize) -> Numbers;
+        sibukyaran_baby_passes(passes: *mut u32, pn: usize, moves: *mut u32, mn: usize) -> PassNumbers;
+        sibukyaran_baby_key_rotations(out: *mut u32, m: usize) -> Numbers;
+        sibukyaran_giant_tree(
+            leaves: *mut u32,
+            fn_: usize,
+            levels: *mut u32,
+            ln: usize,
+            pairs: *mut u32,
+            pn: usize
+        ) -> TreeNumbers;
+        sibukyaran_giant_key_rotations(out: *mut u32, m: usize) -> Numbers;
+        sibukyaran_giant_key_switches() -> Numbers;
     }
 }
 
@@ -243,17 +390,23 @@ pub fn transpose(map: Map, pairs: &mut [u32], values: &mut [u64]) -> Numbers {
     on_map!(sibukyaran_transpose, map, pairs.as_mut_ptr(), pairs.len(), values.as_mut_ptr(), values.len())
 }
 
-pub fn evaluate(map: Map, input: &[u64], strategy: Strategy, out: &mut [u64]) -> u32 {
-    let (x, n, o, m) = (input.as_ptr(), input.len(), out.as_mut_ptr(), out.len());
+/// A strategy as C's two numbers.
+pub fn strategy_words(strategy: Strategy) -> (u32, usize) {
     match strategy {
-        Strategy::Bsgs { giant_step } => {
-            on_map!(sibukyaran_evaluate_bsgs, map, x, n, giant_step, o, m)
-        }
-        Strategy::BsgsPowersOfTwo { giant_step } => {
-            on_map!(sibukyaran_evaluate_bsgs_powers_of_two, map, x, n, giant_step, o, m)
-        }
-        Strategy::Direct => on_map!(sibukyaran_evaluate_direct, map, x, n, o, m),
+        Strategy::Bsgs { giant_step } => (0, giant_step),
+        Strategy::BsgsPowersOfTwo { giant_step } => (1, giant_step),
+        Strategy::Direct => (2, 0),
     }
+}
+
+pub fn evaluate(map: Map, input: &[u64], strategy: Strategy, out: &mut [u64]) -> u32 {
+    let (kind, giant_step) = strategy_words(strategy);
+    evaluate_kind(map, input, kind, giant_step, out)
+}
+
+/// With any number for the kind of strategy.
+pub fn evaluate_kind(map: Map, input: &[u64], kind: u32, giant_step: usize, out: &mut [u64]) -> u32 {
+    on_map!(sibukyaran_evaluate, map, input.as_ptr(), input.len(), kind, giant_step, out.as_mut_ptr(), out.len())
 }
 
 /// Words lent in the middle of others, which a call must leave alone.
@@ -296,4 +449,201 @@ pub fn baby_multiple(baby: i64, step: usize) -> Numbers {
 
 pub fn giant_digit(rot: i64, step: usize, slots: usize) -> SignedDigit {
     c::sibukyaran_giant_digit(rot, step, slots)
+}
+
+/// A call of diagonal indexes: the list and the slots, then the others.
+macro_rules! on_indexes {
+    ($f:ident, $indexes:expr, $slots:expr $(, $arg:expr)*) => {
+        unsafe { c::$f($indexes.as_ptr(), $indexes.len(), $slots $(, $arg)*) }
+    };
+}
+
+pub fn plan(indexes: &[i64], slots: usize, giant_step: usize, plan: &mut [u32]) -> PlanNumbers {
+    on_indexes!(sibukyaran_linear_transformation_plan, indexes, slots, giant_step, plan.as_mut_ptr(), plan.len())
+}
+
+/// The calls of a strategy take any number for its kind.
+pub fn index(indexes: &[i64], slots: usize, (kind, giant_step): (u32, usize), plan: &mut [u32]) -> PlanNumbers {
+    on_indexes!(sibukyaran_linear_transform_index, indexes, slots, kind, giant_step, plan.as_mut_ptr(), plan.len())
+}
+
+pub fn baby_steps(indexes: &[i64], slots: usize, (kind, giant_step): (u32, usize), out: &mut [u32]) -> Numbers {
+    on_indexes!(sibukyaran_baby_steps, indexes, slots, kind, giant_step, out.as_mut_ptr(), out.len())
+}
+
+pub fn baby_step(indexes: &[i64], slots: usize, giant_step: usize) -> Numbers {
+    on_indexes!(sibukyaran_baby_step, indexes, slots, giant_step)
+}
+
+pub fn plan_keys(indexes: &[i64], slots: usize, (kind, giant_step): (u32, usize), out: &mut [u32]) -> Numbers {
+    on_indexes!(sibukyaran_plan_key_rotations, indexes, slots, kind, giant_step, out.as_mut_ptr(), out.len())
+}
+
+pub fn plan_switches(indexes: &[i64], slots: usize, (kind, giant_step): (u32, usize)) -> Numbers {
+    on_indexes!(sibukyaran_plan_key_switches, indexes, slots, kind, giant_step)
+}
+
+pub fn best_width(indexes: &[i64], slots: usize) -> Numbers {
+    on_indexes!(sibukyaran_optimal_bsgs_giant_step, indexes, slots)
+}
+
+/// Rotations as C's four numbers.
+#[derive(Clone, Copy, PartialEq, Eq, Debug)]
+pub struct Reach {
+    pub kind: u32,
+    pub baby_step: usize,
+    pub giant_step: usize,
+    pub slots: usize,
+}
+
+impl Reach {
+    pub const PER_ROTATION: Reach = Reach { kind: 0, baby_step: 0, giant_step: 0, slots: 0 };
+
+    pub fn powers(baby_step: usize, giant_step: usize, slots: usize) -> Reach {
+        Reach { kind: 1, baby_step, giant_step, slots }
+    }
+
+    /// The Rust's.
+    pub fn rotations(self) -> Rotations {
+        match self.kind {
+            0 => Rotations::PerRotation,
+            _ => Rotations::PowersOfTwo {
+                baby_step: self.baby_step as i64,
+                giant_step: self.giant_step as i64,
+                slots: self.slots as i64,
+            },
+        }
+    }
+}
+
+/// A call of rotations and a list: the rotations' four arguments and the list, then the others.
+macro_rules! on_rotations {
+    ($f:ident, $reach:expr, $list:expr $(, $arg:expr)*) => {
+        unsafe {
+            c::$f(
+                $reach.kind,
+                $reach.baby_step,
+                $reach.giant_step,
+                $reach.slots,
+                $list.as_ptr(),
+                $list.len()
+                $(, $arg)*
+            )
+        }
+    };
+}
+
+pub fn baby_closure(reach: Reach, babies: &[i64], out: &mut [u32]) -> Numbers {
+    on_rotations!(sibukyaran_baby_closure, reach, babies, out.as_mut_ptr(), out.len())
+}
+
+pub fn baby_passes(reach: Reach, babies: &[i64], passes: &mut [u32], moves: &mut [u32]) -> PassNumbers {
+    let (p, pn, m, mn) = (passes.as_mut_ptr(), passes.len(), moves.as_mut_ptr(), moves.len());
+    on_rotations!(sibukyaran_baby_passes, reach, babies, p, pn, m, mn)
+}
+
+pub fn baby_keys(reach: Reach, babies: &[i64], out: &mut [u32]) -> Numbers {
+    on_rotations!(sibukyaran_baby_key_rotations, reach, babies, out.as_mut_ptr(), out.len())
+}
+
+pub fn giant_tree(
+    reach: Reach,
+    giants: &[i64],
+    leaves: &mut [u32],
+    levels: &mut [u32],
+    pairs: &mut [u32],
+) -> TreeNumbers {
+    let (f, fm) = (leaves.as_mut_ptr(), leaves.len());
+    let (l, lm) = (levels.as_mut_ptr(), levels.len());
+    on_rotations!(sibukyaran_giant_tree, reach, giants, f, fm, l, lm, pairs.as_mut_ptr(), pairs.len())
+}
+
+pub fn giant_keys(reach: Reach, giants: &[i64], out: &mut [u32]) -> Numbers {
+    on_rotations!(sibukyaran_giant_key_rotations, reach, giants, out.as_mut_ptr(), out.len())
+}
+
+pub fn giant_switches(reach: Reach, giants: &[i64]) -> Numbers {
+    on_rotations!(sibukyaran_giant_key_switches, reach, giants)
+}
+
+/// A call that builds a map: its arguments, then the lent pairs and values.
+macro_rules! building {
+    ($f:ident, $pairs:expr, $values:expr $(, $arg:expr)*) => {
+        unsafe { c::$f($($arg,)* $pairs.as_mut_ptr(), $pairs.len(), $values.as_mut_ptr(), $values.len()) }
+    };
+}
+
+/// A map that reads one entry, by its name in the Rust; k counts where it has a shift.
+pub fn rule(name: &str, slots: usize, log_d: usize, k: usize, p: &mut [u32], v: &mut [u64]) -> Numbers {
+    match name {
+        "sigma" => building!(sibukyaran_sigma, p, v, slots, log_d),
+        "tau" => building!(sibukyaran_tau, p, v, slots, log_d),
+        "transpose" => building!(sibukyaran_transpose_matrices, p, v, slots, log_d),
+        "rotate_rows" => building!(sibukyaran_rotate_rows, p, v, slots, log_d, k),
+        "rotate_cols" => building!(sibukyaran_rotate_cols, p, v, slots, log_d, k),
+        "rows_upper" => building!(sibukyaran_rows_upper, p, v, slots, log_d, k),
+        "rows_lower" => building!(sibukyaran_rows_lower, p, v, slots, log_d, k),
+        "cols_left" => building!(sibukyaran_cols_left, p, v, slots, log_d, k),
+        "cols_right" => building!(sibukyaran_cols_right, p, v, slots, log_d, k),
+        "rows_left" => building!(sibukyaran_rows_left, p, v, slots, log_d, k),
+        "rows_right" => building!(sibukyaran_rows_right, p, v, slots, log_d, k),
+        _ => panic!("no map {name}"),
+    }
+}
+
+/// A map of slots and log_d alone.
+pub fn tiled(name: &str, slots: usize, log_d: usize, p: &mut [u32], v: &mut [u64]) -> Numbers {
+    match name {
+        "tau_rep" => building!(sibukyaran_tau_rep, p, v, slots, log_d),
+        "first_row" => building!(sibukyaran_first_row, p, v, slots, log_d),
+        "first_col" => building!(sibukyaran_first_col, p, v, slots, log_d),
+        _ => panic!("no map {name}"),
+    }
+}
+
+pub fn rotate_rows_rep(slots: usize, log_d: usize, k: usize, p: &mut [u32], v: &mut [u64]) -> Numbers {
+    building!(sibukyaran_rotate_rows_rep, p, v, slots, log_d, k)
+}
+
+/// A product by public matrices, by its name in the Rust.
+pub fn product(
+    name: &str,
+    slots: usize,
+    log_d: usize,
+    count: usize,
+    b: &[u64],
+    p: &mut [u32],
+    v: &mut [u64],
+) -> Numbers {
+    let (words, n) = (b.as_ptr(), b.len());
+    match name {
+        "right_mul" => building!(sibukyaran_right_mul, p, v, slots, log_d, count, words, n),
+        "left_mul" => building!(sibukyaran_left_mul, p, v, slots, log_d, count, words, n),
+        "right_jkls" => building!(sibukyaran_right_jkls, p, v, slots, log_d, count, words, n),
+        "left_jkls" => building!(sibukyaran_left_jkls, p, v, slots, log_d, count, words, n),
+        _ => panic!("no product {name}"),
+    }
+}
+
+pub fn left_mul_rep(slots: usize, log_d: usize, b: &[u64], p: &mut [u32], v: &mut [u64]) -> Numbers {
+    building!(sibukyaran_left_mul_rep, p, v, slots, log_d, b.as_ptr(), b.len())
+}
+
+pub fn slot_product(slots: usize, values: &[u64], rotation: i64, p: &mut [u32], v: &mut [u64]) -> Numbers {
+    building!(sibukyaran_slot_product, p, v, slots, values.as_ptr(), values.len(), rotation)
+}
+
+pub fn per_matrix_map(slots: usize, log_d: usize, terms: &Terms, p: &mut [u32], v: &mut [u64]) -> Numbers {
+    let (is, js, ws) = (&terms.is, &terms.js, &terms.ws);
+    let (i, j, w) = (is.as_ptr(), js.as_ptr(), ws.as_ptr());
+    building!(sibukyaran_per_matrix_map, p, v, slots, log_d, i, is.len(), j, js.len(), w, ws.len())
+}
+
+/// tau_values (rows) or sigma_values.
+pub fn skewed_values(rows: bool, log_d: usize, count: usize, b: &[u64], out: &mut [u64]) -> Numbers {
+    let (words, n, o, m) = (b.as_ptr(), b.len(), out.as_mut_ptr(), out.len());
+    match rows {
+        true => unsafe { c::sibukyaran_tau_values(log_d, count, words, n, o, m) },
+        false => unsafe { c::sibukyaran_sigma_values(log_d, count, words, n, o, m) },
+    }
 }

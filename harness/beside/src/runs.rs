@@ -88,6 +88,16 @@ pub fn compare(tally: &mut Tally) {
             none.slots = 0;
             for map in [&good, &bad, &none] {
                 for giant_step in [0, 1, 65_536, 65_537, usize::MAX] {
+                    // No strategy has this kind, so it has no width.
+                    let (input, held) = (random.words(slots), random.words(slots));
+                    let mut lent = Lent::new(&held);
+                    let refusal = ours::evaluate_kind(map.lent(), &input, 3, giant_step, lent.part());
+                    let right = [right_map_refusal(map.lent()), 3].into_iter().find(|&e| e != 0).unwrap();
+                    cases.same(
+                        || format!("{map:?} kind 3 {giant_step}"),
+                        (refusal, lent.back()),
+                        (right, (held, true)),
+                    );
                     for strategy in
                         [Strategy::Bsgs { giant_step }, Strategy::BsgsPowersOfTwo { giant_step }, Strategy::Direct]
                     {

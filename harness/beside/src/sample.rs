@@ -7,7 +7,7 @@ use std::path::PathBuf;
 use std::process::ExitCode;
 
 use crate::tally::Tally;
-use crate::{diagonals, linear_transformation, ring, runs};
+use crate::{diagonals, keys, linear_transformation, matrices, plans, ring, runs};
 
 #[derive(Default)]
 pub struct Sample {
@@ -36,6 +36,9 @@ fn made() -> Sample {
     diagonals::sample(&mut sample);
     runs::sample(&mut sample);
     linear_transformation::sample(&mut sample);
+    plans::sample(&mut sample);
+    keys::sample(&mut sample);
+    matrices::sample(&mut sample);
     assert!(sample.calls.len() <= LONGEST_TEXT, "the sample is too long: {} bytes", sample.calls.len());
     sample
 }

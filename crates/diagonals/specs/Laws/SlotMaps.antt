@@ -6,12 +6,10 @@ use mathlib.Core.Path.{_≡_, refl, sym, ap, _∙_}
 use mathlib.Core.Bool.{Bool, true, false, cond, _&&_, _||_, or-true, or-assoc}
 use mathlib.Core.List.{List, [], _∷_, _++_, map}
 use native.Mathlib.Nat.{not-suc-le-zero, le-of-suc-le-suc, zero-mod, mod-eq-of-lt, add-mul-mod-self-right}
-use native.Mathlib.Numerals.{add-one}
 use borrow.Author.Tests.{eq-eqb, eqb-true}
 use lib.Dec.{eqb}
 use lib.IntN.{ℤ, pos, _+ℤ_, _-ℤ_, +ℤ-comm, -ℤ-+ℤ-cancel, +ℤ-assoc}
-use lib.ListN.{length, getD, take, length-map}
-use lib.Seq.{take-suc}
+use lib.ListN.{length, getD, length-map}
 use Rattle.ring.specs.Slots.{modulus, mulm}
 use Rattle.ring.specs.Lists.{sumBy, join, Each, Rising}
 use Rattle.ring.specs.Vectors.{tabulate}
@@ -25,8 +23,8 @@ use Rattle.ring.specs.Laws.Below.{below-low, below-rising, sum-below-one}
 use Rattle.diagonals.specs.Maps.{Diagonal}
 use Rattle.diagonals.specs.Products.{cell, term, product}
 use Rattle.diagonals.specs.Setting.{pairWords, valueWords}
-use Rattle.diagonals.specs.SlotMaps.{Term, termsOf, offsetOf, reached, weight, gathered, slotMap, slotSum}
-use Rattle.diagonals.specs.SlotSteps.{rank, pairsAt, sumAt}
+use Rattle.diagonals.specs.SlotMaps.{Term, termsOf, offsetOf, reached, weight, gathered, rank, slotMap, zeroMap, slotSum}
+use Rattle.diagonals.specs.SlotSteps.{pairsAt, sumAt}
 use Rattle.diagonals.specs.Laws.Words.{FormedMap}
 
 -- ---- the terms of three lists
@@ -49,10 +47,6 @@ module _ (slots : ℕ) where
   pub reached-append : (xs ys : List Term) (k : ℕ) → reached slots (xs ++ ys) k ≡ (reached slots xs k || reached slots ys k)
   reached-append [] ys k = refl
   reached-append (x ∷ xs) ys k = rw (reached-append xs ys k) (sym (or-assoc (eqb (offsetOf slots x) k) (reached slots xs k) (reached slots ys k)))
-
-  -- one term more
-  pub reached-more : (ts : List Term) (t k : ℕ) (d : Term) → t < length ts → reached slots (take (t + 1) ts) k ≡ (reached slots (take t ts) k || (eqb (offsetOf slots (getD ts t d)) k || false))
-  reached-more ts t k d l = rw (add-one, take-suc ts t d l) (reached-append (take t ts) (getD ts t d ∷ []) k)
 
   -- each term reaches its diagonal
   pub reached-at : (ts : List Term) (t : ℕ) (d : Term) → t < length ts → reached slots ts (offsetOf slots (getD ts t d)) ≡ true
@@ -118,6 +112,24 @@ module _ (slots period : ℕ) (ts : List Term) where
   slotMap-values h =
       join-map (gathered slots period ts) (λ d. d .values) offsets
       ∙ join-tables period h (λ k p. sumBy modulus (weight slots k p) ts) 0 offsets
+
+-- ---- the words of a map of zeros
+
+module _ (period : ℕ) (ks : List ℕ) where
+  pub zeroMap-count : length (zeroMap period ks) ≡ length ks
+  unfolding zeroMap
+  zeroMap-count = length-map ks _
+
+  pub zeroMap-pairs : pairWords (zeroMap period ks) ≡ pairsAt period ks
+  unfolding zeroMap pairWords
+  zeroMap-pairs = join-map (λ k. record { offset = k; values = tabulate period (λ _. 0) }) (λ (d : Diagonal). d .offset ∷ length (d .values) ∷ []) ks
+      ∙ ap (λ (n : ℕ). pairsAt n ks) (length-tabulate {A = ℕ} period (λ _. 0))
+
+  pub zeroMap-values : 0 < period → valueWords (zeroMap period ks) ≡ tabulate (length ks * period) (λ _. 0)
+  unfolding zeroMap valueWords
+  zeroMap-values h =
+      join-map (λ k. record { offset = k; values = tabulate period (λ _. 0) }) (λ (d : Diagonal). d .values) ks
+      ∙ join-tables period h (λ k p. 0) 0 ks
 
 pub length-pairs : (period : ℕ) (ks : List ℕ) → length (pairsAt period ks) ≡ length ks * 2
 length-pairs period ks = length-join (λ k. k ∷ period ∷ []) 2 (λ k. refl) ks

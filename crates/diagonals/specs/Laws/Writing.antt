@@ -22,8 +22,8 @@ unfolding pairWords valueWords inFront
 words-none pairs values = record { pairs-is = refl; values-is = refl }
 
 -- two words more in front
-two : (front old : List ℕ) (m a b : ℕ) → length front ≡ m → m + 2 ≤ length old → set (set (inFront front old) m a) (m + 1) b ≡ inFront (front ++ (a ∷ b ∷ [])) old
-two front old m a b e l =
+pub inFront-two : (front old : List ℕ) (m a b : ℕ) → length front ≡ m → m + 2 ≤ length old → set (set (inFront front old) m a) (m + 1) b ≡ inFront (front ++ (a ∷ b ∷ [])) old
+inFront-two front old m a b e l =
     ap (λ (t : List ℕ). set t (m + 1) b) (inFront-more front old m a e (omega arith))
     ∙ inFront-more (front ++ (a ∷ [])) old (m + 1) b (simp length-append (omega arith)) (omega arith)
     ∙ ap (λ (t : List ℕ). inFront t old) (append-assoc front (a ∷ []) (b ∷ []))
@@ -40,7 +40,7 @@ module _ {ds : List Diagonal} {pairs₀ pairs values₀ values : List ℕ} (w : 
       pairs-is : set (set pairs (2 * n) (d .offset)) (2 * n + 1) (length (d .values)) ≡ inFront (pairWords (ds ++ (d ∷ []))) pairs₀
       pairs-is =
           ap (λ (t : List ℕ). set (set t (2 * n) (d .offset)) (2 * n + 1) (length (d .values))) (w .pairs-is)
-          ∙ two (pairWords ds) pairs₀ (2 * n) (d .offset) (length (d .values)) (sym front) lp
+          ∙ inFront-two (pairWords ds) pairs₀ (2 * n) (d .offset) (length (d .values)) (sym front) lp
           ∙ ap (λ (t : List ℕ). inFront t pairs₀) (sym (pairWords-more ds d))
 
       values-is : take at values ++ (d .values ++ drop (at + length (d .values)) values) ≡ valueWords (ds ++ (d ∷ [])) ++ drop (length (valueWords (ds ++ (d ∷ [])))) values₀

@@ -15,7 +15,8 @@ use Rattle.ring.specs.Laws.Residues.{residue-lt}
 use Rattle.ring.specs.Laws.Refusals.{pick-none, inside}
 use Rattle.linear_transformation.specs.declared.digits.Digit.{Digit}
 use Rattle.linear_transformation.specs.Digits.{rotOf, digit}
-use Rattle.linear_transformation.specs.Calls.{noBaby, babyRefusal, babyMultiple, digitRefusal, digitNumbers, digitAnswered}
+use Rattle.linear_transformation.specs.Rotations.{noBaby, babyMultiple}
+use Rattle.linear_transformation.specs.Calls.{babyRefusal, digitRefusal, digitNumbers, digitAnswered}
 use Rattle.linear_transformation.specs.Laws.Digits.{Giant, digit-turns}
 use Rattle.linear_transformation.specs.Laws.Bits.{digit-small}
 

@@ -25,14 +25,14 @@ use Rattle.linear_transformation.specs.Laws.Bits.{bits-positive, bits-sm
 
 -- ---- the leaf of a digit in the range of b = c + 1
 
-leaf-low : (c j : ℕ) → j < 2 ^ c → residueOf (pos j) (2 ^ suc c) ≡ j
+pub leaf-low : (c j : ℕ) → j < 2 ^ c → residueOf (pos j) (2 ^ suc c) ≡ j
 leaf-low c j h = residue-pos j (2 ^ suc c) (pow-pos (suc c)) ∙ mod-eq-of-lt (omega arith)
 
 negative : (n m : ℕ) → n < m → residueOf (negsuc n) m ≡ m - suc n
 negative n zero h = absurd (not-suc-le-zero h)
 negative n (suc m) h = rw (mod-eq-of-lt {n = n} {m = suc m} h) (omega arith)
 
-leaf-high : (c m : ℕ) → m < 2 ^ c → residueOf (negsuc m) (2 ^ suc c) ≡ 2 ^ suc c - suc m
+pub leaf-high : (c m : ℕ) → m < 2 ^ c → residueOf (negsuc m) (2 ^ suc c) ≡ 2 ^ suc c - suc m
 leaf-high c m h = negative m (2 ^ suc c) (omega arith)
 
 -- ---- leaves rise

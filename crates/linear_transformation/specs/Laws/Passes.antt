@@ -20,7 +20,7 @@ use Rattle.ring.specs.Laws.Lists.{each-append, each-map, rising-map, join-appen
 use Rattle.ring.specs.Laws.Below.{below-rising}
 use Rattle.ring.specs.Laws.Vectors.{tabulate-snoc}
 use Rattle.linear_transformation.specs.Plans.{among}
-use Rattle.linear_transformation.specs.Closures.{topBit, cleared, closure, hasTop, targets, Pass, move, pass, passOf, passes, passRotations}
+use Rattle.linear_transformation.specs.Closures.{topBit, cleared, closure, hasTop, targets, Pass, move, pass, passOf, passes, passRotations, nonzeros}
 use Rattle.linear_transformation.specs.Laws.Members.{among-join, among-joined, only-yes, only-among, each-among, among-each}
 use Rattle.linear_transformation.specs.Laws.Closures.{top-low, top-within, top-falls, Closed, closure-only, closure-low, closure-rising, closure-closed}
 
@@ -164,10 +164,6 @@ rotations-rising b step cs p =
     (rising-map (λ i. 2 ^ i * step) (λ x y l. mul-lt-mul-of-pos-right (pow-lt l) p) (below (λ i. nonEmpty (targets cs i)) b) (below-rising (λ i. nonEmpty (targets cs i)) b))
 
 -- ---- the number of switches
-
--- those of the numbers that are not 0
-abbrev pub nonzeros : List ℕ → List ℕ
-nonzeros cs = join (λ k. only (not (eqb k 0)) k) cs
 
 -- one more top bit
 more : (c : Bool) (t b k : ℕ) → length (only (c && ltb t (suc b)) k) ≡ length (only (c && ltb t b) k) + length (only (c && eqb t b) k)

@@ -21,7 +21,7 @@ use Rattle.ring.specs.Laws.Refusals.{inside}
 use Rattle.linear_transformation.specs.declared.LinearTransformationStrategy.{LinearTransformationStrategy}
 use Rattle.linear_transformation.specs.declared.LinearTransformationStrategy.the-variants.{Bsgs, BsgsPowersOfTwo, Direct}
 use Rattle.linear_transformation.specs.Strategies.{widthOutside}
-use Rattle.linear_transformation.specs.Plans.{some, among, named, diagonalsOf, widthOf, babyOf, giantOf, babies, giants, babiesAt, planIndex, cuts, planPairs, planWords}
+use Rattle.linear_transformation.specs.Plans.{some, among, named, diagonalsOf, widthOf, babyOf, giantOf, babies, giants, babiesAt, planIndex, cuts, planPairs, wordsWith}
 use Rattle.linear_transformation.specs.Laws.Members.{some-append, some-witness, right, among-head, among-rest, among-some, each-among, among-below, rising-same, rising-below, groups}
 
 -- ---- the baby and the giant of a diagonal
@@ -41,7 +41,7 @@ module _ (width : ℕ) where
   unfolding babyOf
   baby-lt k w = mod-lt k w
 
-  giant-times : (k : ℕ) → giantOf width k ≡ k / width * width
+  pub giant-times : (k : ℕ) → giantOf width k ≡ k / width * width
   unfolding giantOf babyOf
   giant-times k = omega (arith, div-add-mod' k width)
 
@@ -266,9 +266,9 @@ unfolding planPairs
 pairs-length slots width ks = cuts-length (babiesAt width ks) 0 (giants slots width ks)
 
 -- babies, three words a giant, and one a diagonal
-pub words-length : {slots width : ℕ} {ks : List ℕ} → Planned slots width ks → length (planWords slots width ks) ≡ length (babies slots width ks) + 3 * length (giants slots width ks) + length ks
-unfolding planWords
-words-length {slots} {width} {ks} p =
+pub words-length : {slots width : ℕ} {ks : List ℕ} → Planned slots width ks → (bs : List ℕ) → length (wordsWith bs slots width ks) ≡ length bs + 3 * length (giants slots width ks) + length ks
+unfolding wordsWith
+words-length {slots} {width} {ks} p bs =
     rw (length-append, length-append, length-append, length-join (λ c. c .0 ∷ c .1 ∷ []) 2 (λ c. refl) (planPairs slots width ks), pairs-length slots width ks, index-length p) (omega arith)
 
 -- ---- the diagonals that a list names

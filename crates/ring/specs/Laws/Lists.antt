@@ -3,13 +3,12 @@
 -- Assumes nothing.
 use mathlib.Core.Path.{_≡_, refl, sym, ap, subst, _∙_}
 use mathlib.Core.List.{List, [], _∷_, _++_, map, reverse, reverseAux, reverse-cons, append-assoc}
-use Prim.Native.Nat.{ℕ, zero, suc, _+_, _*_, _%_, _<_}
+use Prim.Native.Nat.{ℕ, zero, suc, _*_, _%_, _<_}
 use native.Mathlib.Nat.{not-suc-le-zero, le-of-suc-le-suc, zero-mod, add-zero, add-comm, add-mod-mod, zero-mul, suc-mul}
-use native.Mathlib.Numerals.{add-one}
 use native.Mathlib.Omega.{arith}
-use lib.ListN.{length, getD, take, drop, length-append}
+use lib.ListN.{length, getD, drop, length-append}
 use Rattle.ring.specs.Vectors.{tabulate}
-use lib.Seq.{take-suc, drop-append-seam}
+use lib.Seq.{drop-append-seam}
 use Rattle.ring.specs.Slots.{addm, mulm}
 use Rattle.ring.specs.Lists.{sumBy, join, Each, Rising}
 use Rattle.ring.specs.Laws.Slots.{addm-assoc, addm-mod, addm-lt, addm-swap, addm-left, zero-addm, mulm-addm, mulm-comm, zero-mulm}
@@ -185,10 +184,10 @@ module _ (m : ℕ) {A : Type 0} where
   sumBy-join g f [] = refl
   sumBy-join g f (x ∷ xs) = sumBy-append f (g x) (join g xs) ∙ ap (addm m (sumBy m f (g x))) (sumBy-join g f xs)
 
-  -- one element more, as a loop adds it
-  pub sumBy-more : (f : A → ℕ) (xs : List A) (j : ℕ) (d : A) → j < length xs → sumBy m f (take (j + 1) xs) ≡ addm m (sumBy m f (take j xs)) (f (getD xs j d))
+  -- one element more
+  pub sumBy-snoc : (f : A → ℕ) (xs : List A) (x : A) → sumBy m f (xs ++ (x ∷ [])) ≡ addm m (sumBy m f xs) (f x)
   unfolding addm
-  sumBy-more f xs j d l = rw (add-one, take-suc xs j d, sumBy-append) (simp (add-zero, add-mod-mod))
+  sumBy-snoc f xs x = rw sumBy-append (simp (add-zero, add-mod-mod))
 
 -- two sums exchanged
 pub sumBy-exchange : (m : ℕ) {A B : Type 0} (f : A → B → ℕ) (xs : List A) (ys : List B) → sumBy m (λ x. sumBy m (f x) ys) xs ≡ sumBy m (λ y. sumBy m (λ x. f x y) xs) ys

@@ -8,7 +8,7 @@ use Rattle.ring.specs.Answers.{answered}
 use Rattle.ring.specs.declared.Answer.{Answer}
 use Rattle.ring.specs.Laws.Refusals.{not-outside}
 use Rattle.ring.specs.Laws.Answers.{no-refused, same-value}
-use Rattle.diagonals.specs.Steps.{Range}
+use Rattle.ring.specs.Refusals.{Range}
 use Rattle.diagonals.proofs.shrinking.common.Statement.{statement}
 use Rattle.diagonals.proofs.shrinking.common.Tie as tie
 

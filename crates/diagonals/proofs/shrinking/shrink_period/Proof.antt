@@ -5,7 +5,7 @@ use denote.Ref.{now}
 use Rattle.ring.specs.Laws.Refusals.{inside}
 use Rattle.diagonals.specs.Maps.{view}
 use Rattle.diagonals.specs.Shrinking.{shrunk}
-use Rattle.diagonals.specs.Steps.{Range}
+use Rattle.ring.specs.Refusals.{Range}
 use Rattle.diagonals.specs.Laws.Calls.{second-map-refused, second-no-room, second-written}
 use Rattle.diagonals.proofs.Shrinkage.{length-shrunk, shrunk-no-pairs, shrunk-no-values, shrunk-room, shrunk-words}
 use borrow.Author.Needs.{needs}

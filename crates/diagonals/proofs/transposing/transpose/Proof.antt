@@ -5,7 +5,7 @@ use denote.Ref.{now}
 use Rattle.ring.specs.Laws.Refusals.{inside}
 use Rattle.diagonals.specs.Maps.{startAt, view}
 use Rattle.diagonals.specs.Transposing.{transposed}
-use Rattle.diagonals.specs.Steps.{Range}
+use Rattle.ring.specs.Refusals.{Range}
 use Rattle.diagonals.specs.Laws.Calls.{second-map-refused, second-no-room, second-written}
 use Rattle.diagonals.proofs.Leading.{whole-place, length-transposed, transposed-no-pairs, transposed-no-values, transposed-room}
 use borrow.Author.Needs.{needs}

@@ -1,0 +1,90 @@
+-- Document 01, "Keys": the tree over the giants' digits: leaves, nodes, and each level's rotation and pairs.
+-- Assumes nothing. A node is a number; level 0 has the leaves, and each level the halves of the one before.
+use Prim.Native.Nat.{ℕ, _-_, _/_, _%_, _^_}
+use mathlib.Core.Bool.{Bool, true, false}
+use mathlib.Core.List.{List, [], _∷_, map}
+use lib.Dec.{eqb}
+use lib.ListN.{length}
+use Rattle.ring.specs.Lists.{join}
+use Rattle.ring.specs.Searches.{below, only}
+use Rattle.ring.specs.Vectors.{tabulate}
+use Rattle.linear_transformation.specs.declared.digits.Rot.{Rot}
+use Rattle.linear_transformation.specs.declared.digits.Digit.{Digit}
+use Rattle.linear_transformation.specs.Plans.{some}
+use Rattle.linear_transformation.specs.Digits.{digit, bitsOf, leaf, levelRotation}
+
+-- the digits of the giants, in their order
+abbrev pub digitsOf : ℕ → ℕ → List Rot → List Digit
+digitsOf slots step giants = map (digit slots step) giants
+
+-- the leaves of the digits, in their order
+abbrev pub leavesOf : List Digit → List ℕ
+leavesOf ds = map (leaf (bitsOf ds)) ds
+
+-- node n is on level i: a leaf, halved i times, is n
+unfoldable pub there : List ℕ → ℕ → ℕ → Bool
+there leaves i n = some (λ l. eqb (l / 2 ^ i) n) leaves
+
+-- the nodes of level i: rising, distinct
+unfoldable pub nodes : ℕ → List ℕ → ℕ → List ℕ
+nodes b leaves i = below (there leaves i) (2 ^ (b - i))
+
+-- a pair: the odd node, and whether node odd - 1 is there
+pub record Pair : Type 0 where
+  pub odd : ℕ
+  pub even-there : Bool
+
+-- the pairs of level i, odd rising
+unfoldable pub pairsAt : ℕ → List ℕ → ℕ → List Pair
+pairsAt b leaves i =
+    map (λ n. record { odd = n; even-there = there leaves i (n - 1) }) (join (λ n. only (eqb (n % 2) 1) n) (nodes b leaves i))
+
+-- a level: its rotation and its pairs
+pub record Level : Type 0 where
+  pub rotation : Rot
+  pub pairs : List Pair
+
+-- the levels 0 to b - 1
+unfoldable pub levelsOf : ℕ → ℕ → ℕ → List ℕ → List Level
+levelsOf slots step b leaves =
+    tabulate b (λ i. record { rotation = levelRotation slots step b i; pairs = pairsAt b leaves i })
+
+-- the tree's answer
+pub record Tree : Type 0 where
+  pub bits : ℕ
+  pub leaves : List ℕ
+  pub levels : List Level
+
+unfoldable pub treeOf : ℕ → ℕ → List Rot → Tree
+treeOf slots step giants =
+    let ds = digitsOf slots step giants in
+    record { bits = bitsOf ds; leaves = leavesOf ds; levels = levelsOf slots step (bitsOf ds) (leavesOf ds) }
+
+-- ---- as words
+
+-- for each level its rotation and its number of pairs
+abbrev pub levelWords : List Level → List ℕ
+levelWords ls = join (λ l. l .rotation .0 ∷ length (l .pairs) ∷ []) ls
+
+-- 1 for true, 0 for false
+abbrev pub flag : Bool → ℕ
+flag true = 1
+flag false = 0
+
+-- the pairs of all levels, level after level: the odd node and the flag
+abbrev pub pairWords : List Level → List ℕ
+pairWords ls = join (λ l. join (λ p. p .odd ∷ flag (p .even-there) ∷ []) (l .pairs)) ls
+
+-- ---- keys and switches
+
+-- the rotations of the levels that have pairs
+abbrev pub keyed : Rot → List Pair → List ℕ
+keyed rot [] = []
+keyed rot (p ∷ ps) = rot .0 ∷ []
+
+unfoldable pub treeKeys : Tree → List ℕ
+treeKeys t = join (λ l. keyed (l .rotation) (l .pairs)) (t .levels)
+
+-- the pairs of all levels
+unfoldable pub treeSwitches : Tree → ℕ
+treeSwitches t = length (join (λ l. l .pairs) (t .levels))

@@ -1,0 +1,101 @@
+-- `maps::sums::product_map` meets its contract. Assumes nothing.
+use borrow.Author.Needs.{needs}
+use Prim.Native.Nat.{ℕ}
+use native.Mathlib.Omega.{arith}
+use lib.ListN.{length-replicate}
+use Rattle.diagonals.specs.Laws.Terms.{unmarked, zero-refused, zero-places, zero-sums, zero-written}
+use Rattle.maps.proofs.Answering.{product-refused, product-tiles, product-outputs, product-period, product-room, product-written, product-summing}
+use Rattle.maps.proofs.sums.product_map.Statement.{statement}
+use Rattle.maps.proofs.sums.product_map.Tie as tie
+
+product-refusal-requires : tie.Need-product-refusal-requires
+product-refusal-requires c κs = search needs
+
+returns : tie.Need-returns
+returns c = product-refused _ _ _ (c .before .product-refusal .ensures) (c .if1 .taken)
+
+side-requires : tie.Need-side-requires
+side-requires c κs = c .before .product-refusal .ensures .low (c .if1 .left)
+
+period-of-requires : tie.Need-period-of-requires
+period-of-requires c κs = let t = product-tiles (c .before .before .product-refusal .ensures) (c .before .if1 .left) (c .side .ensures) in (t .side-low, omega (arith, t .inside, t .small))
+
+mark-sums-requires : tie.Need-mark-sums-requires
+mark-sums-requires c κs = (product-outputs (c .before .before .before .before .before .before .before .before .args .p) (c .before .before .before .before .product-refusal .ensures) (c .before .before .before .if1 .left) (c .before .before .side .ensures) (c .before .period-of .ensures), unmarked)
+
+zero-map-requires : tie.Need-zero-map-requires
+zero-map-requires c κs = search needs
+
+enum-known-n : tie.Need-enum-known-n
+enum-known-n c = search needs
+
+enum-told : tie.Need-enum-told
+enum-told c = search needs
+
+same-length : tie.Need-same-length
+same-length c = search needs
+
+same-length-2 : tie.Need-same-length-2
+same-length-2 c = search needs
+
+returns-2 : tie.Need-returns-2
+returns-2 c =
+    let p = c .before .before .before .before .before .before .before .before .before .before .before .before .before .before .before .before .before .before .before .before .args .p in
+    let j = c .before .before .before .before .before .before .before .before .before .before .before .before .before .before .before .before .product-refusal .ensures in
+    let z = c .before .before .before .before .before .before .before .before .before .before .before .before .before .before .before .if1 .left in
+    let s = c .before .before .before .before .before .before .before .before .before .before .before .before .before .before .side .ensures in
+    let e = c .before .before .before .before .before .before .before .before .before .before .before .before .before .period-of .ensures in
+    let m = c .before .before .before .before .before .before .before .before .before .before .before .mark-sums .ensures .marked (c .before .before .before .before .before .before .before .before .before .before .before .before .before .before .before .before .before .before .before .before .args .b .now) in
+    let q = product-room p j z s e (c .before .before .before .before .before .before .before .before .before .before .before .before .before .before .before .before .before .before .before .before .args .pairs .now) (c .before .before .before .before .before .before .before .before .before .before .before .before .before .before .before .before .before .before .before .before .args .values .now) in
+    let w = c .before .before .before .before .before .before .zero-map .ensures in
+    product-written p j z s e (zero-refused m (product-period p j z s e) q w (c .enum-told .given .1))
+
+add-sums-requires : tie.Need-add-sums-requires
+add-sums-requires c κs =
+    let p = c .before .before .before .before .before .before .before .before .before .before .before .before .before .before .before .before .before .before .before .before .before .before .before .args .p in
+    let j = c .before .before .before .before .before .before .before .before .before .before .before .before .before .before .before .before .before .before .before .product-refusal .ensures in
+    let z = c .before .before .before .before .before .before .before .before .before .before .before .before .before .before .before .before .before .before .if1 .left in
+    let s = c .before .before .before .before .before .before .before .before .before .before .before .before .before .before .before .before .before .side .ensures in
+    let e = c .before .before .before .before .before .before .before .before .before .before .before .before .before .before .before .before .period-of .ensures in
+    let m = c .before .before .before .before .before .before .before .before .before .before .before .before .before .before .mark-sums .ensures .marked (c .before .before .before .before .before .before .before .before .before .before .before .before .before .before .before .before .before .before .before .before .before .before .before .args .b .now) in
+    let q = product-room p j z s e (c .before .before .before .before .before .before .before .before .before .before .before .before .before .before .before .before .before .before .before .before .before .before .before .args .pairs .now) (c .before .before .before .before .before .before .before .before .before .before .before .before .before .before .before .before .before .before .before .before .before .before .before .args .values .now) in
+    let w = c .before .before .before .before .before .before .before .before .before .zero-map .ensures in
+    product-summing p j z s e (zero-places m (product-period p j z s e) q w (c .before .before .before .n .given .1) (length-replicate {A = ℕ} 65536 0)) (zero-sums m (product-period p j z s e) q w (c .before .before .before .n .given .1))
+
+same-length-3 : tie.Need-same-length-3
+same-length-3 c = search needs
+
+same-length-4 : tie.Need-same-length-4
+same-length-4 c = search needs
+
+returns-3 : tie.Need-returns-3
+returns-3 c =
+    let p = c .before .before .before .before .before .before .before .before .before .before .before .before .before .before .before .before .before .before .before .before .before .before .before .before .before .before .args .p in
+    let j = c .before .before .before .before .before .before .before .before .before .before .before .before .before .before .before .before .before .before .before .before .before .before .product-refusal .ensures in
+    let z = c .before .before .before .before .before .before .before .before .before .before .before .before .before .before .before .before .before .before .before .before .before .if1 .left in
+    let s = c .before .before .before .before .before .before .before .before .before .before .before .before .before .before .before .before .before .before .before .before .side .ensures in
+    let e = c .before .before .before .before .before .before .before .before .before .before .before .before .before .before .before .before .before .before .before .period-of .ensures in
+    let m = c .before .before .before .before .before .before .before .before .before .before .before .before .before .before .before .before .before .mark-sums .ensures .marked (c .before .before .before .before .before .before .before .before .before .before .before .before .before .before .before .before .before .before .before .before .before .before .before .before .before .before .args .b .now) in
+    let q = product-room p j z s e (c .before .before .before .before .before .before .before .before .before .before .before .before .before .before .before .before .before .before .before .before .before .before .before .before .before .before .args .pairs .now) (c .before .before .before .before .before .before .before .before .before .before .before .before .before .before .before .before .before .before .before .before .before .before .before .before .before .before .args .values .now) in
+    let w = c .before .before .before .before .before .before .before .before .before .before .before .before .zero-map .ensures in
+    product-written p j z s e (zero-written m (product-period p j z s e) q w (c .before .before .before .before .before .before .n .given .1) (c .before .before .add-sums .ensures))
+
+pub product-map-spec : {M : Type 1} → statement M
+product-map-spec =
+    tie.close
+    (tie.spec
+    product-refusal-requires
+    returns
+    side-requires
+    period-of-requires
+    mark-sums-requires
+    zero-map-requires
+    enum-known-n
+    enum-told
+    same-length
+    same-length-2
+    returns-2
+    add-sums-requires
+    same-length-3
+    same-length-4
+    returns-3)

@@ -1,0 +1,142 @@
+-- Laws of the maps that read one entry or none: in every matrix slot the product is the entry that the formula reads, or 0.
+-- Assumes nothing.
+use Prim.Native.Nat.{ℕ, _+_, _*_, _-_, _/_, _%_, _≤_, _<_, _∣_}
+use mathlib.Core.Path.{_≡_, refl, sym, ap, subst, _∙_}
+use mathlib.Core.Bool.{Bool, true, false}
+use mathlib.Core.List.{List}
+use native.Mathlib.Nat.{mod-lt, mod-eq-of-lt, one-le-mul, add-comm, add-mod-right}
+use native.Mathlib.Omega.{arith}
+use borrow.Author.Tests.{ltb-true, leb-true}
+use lib.Dec.{ltb, leb}
+use lib.ListN.{length, getD}
+use Rattle.ring.specs.Slots.{modulus, mulm}
+use Rattle.ring.specs.Lists.{sumBy, join, Each}
+use Rattle.ring.specs.Vectors.{tabulate}
+use Rattle.ring.specs.Laws.Slots.{one-mulm}
+use Rattle.ring.specs.Laws.Lists.{each-all, each-then, each-tabulate, each-map, sumBy-each, sumBy-map, sumBy-residues}
+use Rattle.ring.specs.Laws.Vectors.{length-tabulate}
+use Rattle.diagonals.specs.Products.{cell, product}
+use Rattle.diagonals.specs.SlotMaps.{Term, slotMap}
+use Rattle.diagonals.specs.Shrinking.{commonPeriod, atPeriod, shrunk}
+use Rattle.diagonals.specs.Laws.Words.{FormedMap}
+use Rattle.diagonals.specs.Laws.Matrices.{formed-some}
+use Rattle.diagonals.specs.Laws.SlotMaps.{slotMap-formed, slotMap-period}
+use Rattle.diagonals.specs.Laws.Shrinking.{common-divides, shrunk-formed, shrunk-product}
+use Rattle.maps.specs.declared.rules.Rule.{Rule}
+use Rattle.maps.specs.declared.rules.Rule.the-variants.{Sigma, Tau, Transpose, RotateRows, RotateCols, RowsUpper, RowsLower, ColsLeft, ColsRight, RowsLeft, RowsRight}
+use Rattle.maps.specs.Entries.{Entry, place, entryOf, slotOf, entryAt}
+use Rattle.maps.specs.Readings.{reading, reads, readTerms, wholeMap, ruleMap, shiftOf}
+use Rattle.maps.specs.Laws.Entries.{InMatrix, place-low, entry-of-place, slot-low, entry-inside, slot-is, slot-inside}
+use Rattle.maps.specs.Laws.Terms.{each-join, InPeriod, adds, own-product}
+
+-- ---- what is read is inside the matrix
+
+reading-inside : (d : ℕ) (b : Bool) (r c : ℕ) → (b ≡ true → r < d) → (b ≡ true → c < d) → Each (InMatrix d) (reading b r c)
+reading-inside d true r c h k = (record { row-low = h refl; col-low = k refl }, tt)
+reading-inside d false r c h k = tt
+
+module _ (d r c : ℕ) (h : r < d) (k : c < d) where
+  turned : (x : ℕ) → x % d < d
+  turned x = mod-lt x (omega arith)
+
+  pub reads-inside : (rule : Rule) → shiftOf rule ≤ d → Each (InMatrix d) (reads rule d r c)
+  unfolding reads
+  reads-inside Sigma l = reading-inside d true r ((r + c) % d) (λ e. h) (λ e. turned (r + c))
+  reads-inside Tau l = reading-inside d true ((r + c) % d) c (λ e. turned (r + c)) (λ e. k)
+  reads-inside Transpose l = reading-inside d true c r (λ e. k) (λ e. h)
+  reads-inside (RotateRows x) l = reading-inside d true ((r + x) % d) c (λ e. turned (r + x)) (λ e. k)
+  reads-inside (RotateCols x) l = reading-inside d true r ((c + x) % d) (λ e. h) (λ e. turned (c + x))
+  reads-inside (RowsUpper x) l = reading-inside d (ltb (r + x) d) (r + x) c (λ e. ltb-true (r + x) d e) (λ e. k)
+  reads-inside (RowsLower x) l = reading-inside d (leb d (r + x)) (r + x - d) c (λ e. omega (arith, leb-true d (r + x) e)) (λ e. k)
+  reads-inside (ColsLeft x) l = reading-inside d (ltb (c + x) d) r (c + x) (λ e. h) (λ e. ltb-true (c + x) d e)
+  reads-inside (ColsRight x) l = reading-inside d (leb d (c + x)) r (c + x - d) (λ e. h) (λ e. omega (arith, leb-true d (c + x) e))
+  reads-inside (RowsLeft x) l = reading-inside d (ltb (c + x) d) ((r + x) % d) c (λ e. turned (r + x)) (λ e. k)
+  reads-inside (RowsRight x) l = reading-inside d (leb d (c + x)) ((r + x) % d) c (λ e. turned (r + x)) (λ e. k)
+
+-- ---- the terms
+
+-- all terms of a map, output after output
+abbrev pub ruleTerms : ℕ → Rule → List Term
+ruleTerms d rule = join (readTerms rule d) (tabulate (d * d) (λ t. t))
+
+-- those of output t are of t
+own-terms : (rule : Rule) (d t : ℕ) → Each (λ x. x .i ≡ t) (readTerms rule d t)
+own-terms rule d t =
+    each-map (λ x. x .i ≡ t) (λ e. record { i = t; j = place d e; w = 1 }) (reads rule d (entryOf d t .row) (entryOf d t .col))
+    (each-all (λ e. refl) (reads rule d (entryOf d t .row) (entryOf d t .col)))
+
+-- they stay in the matrix slot
+pub terms-inside : (d : ℕ) (rule : Rule) → 1 ≤ d → shiftOf rule ≤ d → Each (InPeriod (d * d)) (ruleTerms d rule)
+terms-inside d rule h l =
+    each-join (InPeriod (d * d)) (readTerms rule d) (tabulate (d * d) (λ t. t))
+    (each-tabulate (λ t. Each (InPeriod (d * d)) (readTerms rule d t)) (d * d) (λ t. t)
+    (λ t k.
+    each-map (InPeriod (d * d)) (λ e. record { i = t; j = place d e; w = 1 }) (reads rule d (entryOf d t .row) (entryOf d t .col))
+    (each-then (λ e (n : InMatrix d e). record { i-low = k; j-low = place-low d e n }) (reads rule d (entryOf d t .row) (entryOf d t .col))
+    (reads-inside d (entryOf d t .row) (entryOf d t .col) (entry-inside d t h .row-low) (entry-inside d t h .col-low) rule l))))
+
+-- ---- the maps are well formed
+
+module _ (slots d : ℕ) (rule : Rule) (h : 1 ≤ d) (v : d * d ∣ slots) where
+  pub wholeMap-formed : FormedMap slots (wholeMap slots d rule)
+  unfolding wholeMap
+  wholeMap-formed = slotMap-formed slots (d * d) (ruleTerms d rule) (one-le-mul h h) v
+
+  pub wholeMap-period : Each (λ x. length (x .values) ≡ d * d) (wholeMap slots d rule)
+  unfolding wholeMap
+  wholeMap-period = slotMap-period slots (d * d) (ruleTerms d rule)
+
+  pub ruleMap-formed : FormedMap slots (ruleMap slots d rule)
+  unfolding ruleMap
+  ruleMap-formed = shrunk-formed slots (wholeMap slots d rule) wholeMap-formed
+
+  common-square : commonPeriod (wholeMap slots d rule) ∣ d * d
+  common-square =
+      common-divides (wholeMap slots d rule) (formed-some slots (wholeMap slots d rule) wholeMap-formed) (d * d)
+      (each-then {Q = λ x. (t : ℕ) → cell (x .values) (t + d * d) ≡ cell (x .values) t}
+      (λ x (e : length (x .values) ≡ d * d) t. ap (λ (n : ℕ). getD (x .values) n 0) (ap (λ (n : ℕ). (t + n) % length (x .values)) (sym e) ∙ add-mod-right t (length (x .values))))
+      (wholeMap slots d rule) wholeMap-period)
+
+  -- stored at a divisor of d²
+  pub ruleMap-period : Each (λ x. length (x .values) ∣ d * d) (ruleMap slots d rule)
+  unfolding ruleMap shrunk
+  ruleMap-period =
+      each-map (λ x. length (x .values) ∣ d * d) (atPeriod (commonPeriod (wholeMap slots d rule))) (wholeMap slots d rule)
+      (each-all (λ x. subst (λ (n : ℕ). n ∣ d * d) (sym (length-tabulate (commonPeriod (wholeMap slots d rule)) (cell (x .values)))) common-square) (wholeMap slots d rule))
+
+-- ---- the product
+
+module _ (slots d : ℕ) (rule : Rule) (l : shiftOf rule ≤ d) (v : d * d ∣ slots) (input : List ℕ) where
+  module _ (s : ℕ) (e : Entry) (i : InMatrix d e) (k : s < slots / (d * d)) where
+    some : 1 ≤ d
+    some = omega (arith, i .row-low)
+
+    -- a term of this output reads its entry in the same matrix slot
+    read-is : (x : Entry) → InMatrix d x → mulm modulus 1 (getD input ((place d x + s * (d * d)) % slots) 0) ≡ entryAt d input s x % modulus
+    read-is x n =
+        one-mulm modulus (getD input ((place d x + s * (d * d)) % slots) 0)
+        ∙ ap (λ (y : ℕ). getD input y 0 % modulus) (ap (λ (y : ℕ). y % slots) (add-comm (place d x) (s * (d * d))) ∙ mod-eq-of-lt (slot-low d x n s slots v k))
+
+    whole-product : product modulus slots (wholeMap slots d rule) input (s * (d * d) + place d e) ≡ sumBy modulus (entryAt d input s) (reads rule d (e .row) (e .col))
+    unfolding wholeMap
+    whole-product =
+        ap (product modulus slots (slotMap slots (d * d) (ruleTerms d rule)) input) (add-comm (s * (d * d)) (place d e))
+        ∙ own-product slots (d * d) (readTerms rule d) (own-terms rule d) input (place d e) s (omega (arith, slot-low d e i s slots v k)) (place-low d e i)
+        ∙ sumBy-map modulus (λ x. record { i = place d e; j = place d x; w = 1 }) (adds slots (d * d) (readTerms rule d) (own-terms rule d) input (place d e) s) (reads rule d (entryOf d (place d e) .row) (entryOf d (place d e) .col))
+        ∙ ap (λ (y : Entry). sumBy modulus (λ x. mulm modulus 1 (getD input ((place d x + s * (d * d)) % slots) 0)) (reads rule d (y .row) (y .col))) (entry-of-place d e i)
+        ∙ sumBy-each modulus (λ x. mulm modulus 1 (getD input ((place d x + s * (d * d)) % slots) 0)) (λ x. entryAt d input s x % modulus) (reads rule d (e .row) (e .col))
+        (each-then (λ x n. read-is x n) (reads rule d (e .row) (e .col)) (reads-inside d (e .row) (e .col) (i .row-low) (i .col-low) rule l))
+        ∙ sumBy-residues modulus (entryAt d input s) (reads rule d (e .row) (e .col))
+
+    -- entry e of matrix slot s is the entry that e reads, modulo 2^64, or 0
+    pub ruleMap-product : product modulus slots (ruleMap slots d rule) input (s * (d * d) + place d e) ≡ sumBy modulus (entryAt d input s) (reads rule d (e .row) (e .col))
+    unfolding ruleMap
+    ruleMap-product =
+        shrunk-product slots (wholeMap slots d rule) (wholeMap-formed slots d rule some v) modulus input (s * (d * d) + place d e) (slot-low d e i s slots v k)
+        ∙ whole-product
+
+  -- the same at each slot
+  pub ruleMap-at : 1 ≤ d → (t : ℕ) → t < slots → product modulus slots (ruleMap slots d rule) input t ≡ sumBy modulus (entryAt d input (slotOf d t)) (reads rule d (entryOf d t .row) (entryOf d t .col))
+  ruleMap-at h t k =
+      ap (product modulus slots (ruleMap slots d rule) input) (sym (slot-is d t h))
+      ∙ ruleMap-product (slotOf d t) (entryOf d t) (entry-inside d t h) (slot-inside d t h slots v k)

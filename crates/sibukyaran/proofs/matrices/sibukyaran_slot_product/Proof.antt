@@ -1,0 +1,27 @@
+-- `sibukyaran::matrices::sibukyaran_slot_product` meets its contract. Assumes nothing.
+use mir.Syntax.{w64}
+use mir.ValLaws.{toZ-ofZ}
+use Rattle.sibukyaran.proofs.Told.{map-told}
+use borrow.Author.Needs.{needs}
+use Rattle.sibukyaran.proofs.matrices.sibukyaran_slot_product.Statement.{statement}
+use Rattle.sibukyaran.proofs.matrices.sibukyaran_slot_product.Tie as tie
+
+slot-product-requires : tie.Need-slot-product-requires
+slot-product-requires c κs = search needs
+
+numbers-of-requires : tie.Need-numbers-of-requires
+numbers-of-requires c κs = search needs
+
+same-length : tie.Need-same-length
+same-length c = search needs
+
+same-length-2 : tie.Need-same-length-2
+same-length-2 c = search needs
+
+returns : tie.Need-returns
+returns c = map-told (rw (toZ-ofZ w64 (c .before .before .before .before .before .before .before .before .before .before .before .args .rotation) (c .before .before .before .before .before .before .before .before .before .before .before .fits .rotation)) at (c .before .before .before .before .before .slot-product .ensures)) (c .numbers-of .ensures)
+
+pub sibukyaran-slot-product-spec : {M : Type 1} → statement M
+sibukyaran-slot-product-spec =
+    tie.close
+    (tie.spec slot-product-requires numbers-of-requires same-length same-length-2 returns)
