@@ -321,16 +321,11 @@ pub fn compare(tally: &mut Tally) {
             check_rows_rep(cases, MOST, log_d, 1 + random.below((1 << log_d) - 1));
             let count = (MOST / square(log_d)).min(4);
             for p in 0..PRODUCTS.len() {
-                // The products of 256 by 256 but the right one have 33 million summands.
-                if log_d < 8 || p == 0 {
-                    let b = any_matrices(&mut random, count * square(log_d));
-                    check_product(cases, p, MOST, log_d, count, &b);
-                }
+                let b = any_matrices(&mut random, count * square(log_d));
+                check_product(cases, p, MOST, log_d, count, &b);
             }
-            if log_d < 8 {
-                let b = random.words(square(log_d));
-                check_left_mul_rep(cases, MOST, log_d, &b);
-            }
+            let b = random.words(square(log_d));
+            check_left_mul_rep(cases, MOST, log_d, &b);
             let b = random.words(count * square(log_d));
             check_values(cases, log_d, count, &b);
         }
