@@ -4,7 +4,7 @@ use poulpy_core::layouts::{GiantTree, call_baby_closure, call_baby_passes, call_
 
 use crate::diagonals::in_front;
 use crate::ours::{self, Lent, Numbers, PassNumbers, Reach, TreeNumbers};
-use crate::plans::{disguised, held, listed, narrow, pair, rooms, subsets, wide};
+use crate::plans::{check_listed, disguised, held, listed, narrow, pair, subsets, wide};
 use crate::random::Random;
 use crate::ring::{MOST, outside};
 use crate::sample::Sample;
@@ -121,14 +121,7 @@ fn check_babies(cases: &mut Cases, reach: Reach, babies: &[i64]) {
     let lists: [(&str, Ours, Right); 2] =
         [("closure", ours::baby_closure, right_closure), ("baby keys", ours::baby_keys, right_baby_keys)];
     for (name, ours, right) in lists {
-        let list = right(reach, babies);
-        for room in rooms(list.as_ref().map_or(3, Vec::len)) {
-            let held = held(room);
-            let mut lent = Lent::new(&held);
-            let numbers = ours(reach, babies, lent.part());
-            let (answer, words) = listed(list.clone(), &held);
-            cases.same(|| call(name), (numbers, lent.back()), (answer, (words, true)));
-        }
+        check_listed(cases, || call(name), right(reach, babies), |out| ours(reach, babies, out));
     }
     let words = pass_words(reach, babies);
     let (p, m) = words.as_ref().map_or((3, 3), |(p, m)| (p.len(), m.len()));
@@ -144,14 +137,8 @@ fn check_babies(cases: &mut Cases, reach: Reach, babies: &[i64]) {
 
 fn check_giants(cases: &mut Cases, reach: Reach, giants: &[i64]) {
     let call = |name: &str| format!("{name} {reach:?} {giants:?}");
-    let list = right_giant_keys(reach, giants);
-    for room in rooms(list.as_ref().map_or(3, Vec::len)) {
-        let held = held(room);
-        let mut lent = Lent::new(&held);
-        let numbers = ours::giant_keys(reach, giants, lent.part());
-        let (right, words) = listed(list.clone(), &held);
-        cases.same(|| call("giant keys"), (numbers, lent.back()), (right, (words, true)));
-    }
+    let keys = right_giant_keys(reach, giants);
+    check_listed(cases, || call("giant keys"), keys, |out| ours::giant_keys(reach, giants, out));
     cases.same(|| call("giant switches"), ours::giant_switches(reach, giants), right_switches(reach, giants));
     let tree = grown(reach, giants);
     let sizes = match &tree {
@@ -250,9 +237,7 @@ fn shuffled(random: &mut Random, list: &[i64]) -> Vec<i64> {
             other.push(k);
         }
     }
-    for i in (1..other.len()).rev() {
-        other.swap(i, random.below(i + 1));
-    }
+    random.shuffle(&mut other);
     other
 }
 

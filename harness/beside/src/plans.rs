@@ -111,12 +111,44 @@ fn right_best(indexes: &[i64], slots: usize) -> Numbers {
 }
 
 /// Rooms to lend for a result of n words: exactly full, one short, and longer.
-pub fn rooms(n: usize) -> [usize; 3] {
+fn rooms(n: usize) -> [usize; 3] {
     [n, n.saturating_sub(1), n + 3]
 }
 
 pub fn held(room: usize) -> Vec<u32> {
     (0..room as u32).map(|w| 0x7000_0000 + w).collect()
+}
+
+/// A call that writes a list, with each room.
+pub fn check_listed(
+    cases: &mut Cases,
+    call: impl Fn() -> String,
+    list: Result<Vec<u32>, u32>,
+    ours: impl Fn(&mut [u32]) -> Numbers,
+) {
+    for room in rooms(list.as_ref().map_or(3, Vec::len)) {
+        let held = held(room);
+        let mut lent = Lent::new(&held);
+        let numbers = ours(lent.part());
+        let (right, words) = listed(list.clone(), &held);
+        cases.same(&call, (numbers, lent.back()), (right, (words, true)));
+    }
+}
+
+/// A call that writes a plan, with each room.
+fn check_plan(
+    cases: &mut Cases,
+    call: impl Fn() -> String,
+    plan: Result<&LinearTransformationPlan, u32>,
+    ours: impl Fn(&mut [u32]) -> PlanNumbers,
+) {
+    for room in rooms(plan.map_or(3, |plan| plan_words(plan).len())) {
+        let held = held(room);
+        let mut lent = Lent::new(&held);
+        let numbers = ours(lent.part());
+        let (right, words) = right_plan(plan, &held);
+        cases.same(&call, (numbers, lent.back()), (right, (words, true)));
+    }
 }
 
 /// Every call of a plan on one list, with each room.
@@ -126,28 +158,11 @@ fn check(cases: &mut Cases, indexes: &[i64], slots: usize, how: How) {
     let layout = |strategy| LinearTransformationLayout { indexes: indexes.to_vec(), slots, strategy };
     let plan = strategy.map(|strategy| layout(strategy).index());
     let plan = plan.as_ref().map_err(|&refusal| refusal);
-    for room in rooms(plan.map_or(3, |plan| plan_words(plan).len())) {
-        let held = held(room);
-        let mut lent = Lent::new(&held);
-        let numbers = ours::index(indexes, slots, how, lent.part());
-        let (right, words) = right_plan(plan, &held);
-        cases.same(|| call("index"), (numbers, lent.back()), (right, (words, true)));
-    }
-    for room in rooms(plan.map_or(3, |plan| plan.baby_steps.len())) {
-        let held = held(room);
-        let mut lent = Lent::new(&held);
-        let numbers = ours::baby_steps(indexes, slots, how, lent.part());
-        let steps = strategy.map(|strategy| narrow(&layout(strategy).baby_steps()));
-        let (right, words) = listed(steps, &held);
-        cases.same(|| call("baby_steps"), (numbers, lent.back()), (right, (words, true)));
-    }
-    for room in rooms(plan.map_or(3, |plan| plan_keys(plan).len())) {
-        let held = held(room);
-        let mut lent = Lent::new(&held);
-        let numbers = ours::plan_keys(indexes, slots, how, lent.part());
-        let (right, words) = listed(plan.map(plan_keys), &held);
-        cases.same(|| call("key rotations"), (numbers, lent.back()), (right, (words, true)));
-    }
+    check_plan(cases, || call("index"), plan, |out| ours::index(indexes, slots, how, out));
+    let steps = strategy.map(|strategy| narrow(&layout(strategy).baby_steps()));
+    check_listed(cases, || call("baby_steps"), steps, |out| ours::baby_steps(indexes, slots, how, out));
+    let keys = plan.map(plan_keys);
+    check_listed(cases, || call("key rotations"), keys, |out| ours::plan_keys(indexes, slots, how, out));
     let right = plan.map_or_else(Numbers::refused, |plan| Numbers::is(plan_switches(plan)));
     cases.same(|| call("key switches"), ours::plan_switches(indexes, slots, how), right);
 }
@@ -157,13 +172,7 @@ fn check_width(cases: &mut Cases, indexes: &[i64], slots: usize, width: usize) {
     let call = |name: &str| format!("{name} {indexes:?} {slots} {width}");
     let plan = accepted(slots, (0, width)).map(|_| call_linear_transformation_plan(indexes, slots, width));
     let plan = plan.as_ref().map_err(|&refusal| refusal);
-    for room in rooms(plan.map_or(3, |plan| plan_words(plan).len())) {
-        let held = held(room);
-        let mut lent = Lent::new(&held);
-        let numbers = ours::plan(indexes, slots, width, lent.part());
-        let (right, words) = right_plan(plan, &held);
-        cases.same(|| call("plan"), (numbers, lent.back()), (right, (words, true)));
-    }
+    check_plan(cases, || call("plan"), plan, |out| ours::plan(indexes, slots, width, out));
     let right = right_baby_step(indexes, slots, width);
     cases.same(|| call("baby step"), ours::baby_step(indexes, slots, width), right);
 }
@@ -182,9 +191,7 @@ pub fn disguised(random: &mut Random, list: &[i64], slots: usize) -> Vec<i64> {
             other.push(k + turns * slots as i64);
         }
     }
-    for i in (1..other.len()).rev() {
-        other.swap(i, random.below(i + 1));
-    }
+    random.shuffle(&mut other);
     other
 }
 
