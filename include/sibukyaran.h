@@ -1,8 +1,11 @@
-/* The C library: every call that the crates export, proved for all arguments.
+/* The C library: the calls of the crates under C names, proved for all arguments.
  *
- * A refusal is document 01's number, 0 for none. A refused call leaves every lent word as it was, and its value is 0.
- * A slice is a pointer and a count; of a count of 0 the pointer is not read. Lent outputs overlap nothing else that is
- * lent to the same call.
+ * A refusal is document 01's number, 0 for none: the first of the call's list that applies. A refused call leaves every
+ * lent word as it was, and its value is 0. A slice is a pointer and a count; of a count of 0 the pointer is not read. Lent
+ * outputs overlap nothing else that is lent to the same call.
+ *
+ * Stack: a call needs up to 578 KiB (the best width; the plan's keys 514, the builders of maps 320, a run 4), measured on
+ * x86-64. A thread of 1 MiB is enough for each.
  */
 #ifndef SIBUKYARAN_H
 #define SIBUKYARAN_H
@@ -80,7 +83,7 @@ struct sibukyaran_numbers sibukyaran_min_period(const uint64_t *v, size_t v_len)
  * of slices are counted in words, so a map of count pairs has 2 * count words of pairs.
  *
  * 1: slots is outside 1..65536. 2: a lent map is not well formed. 12: a lent output is shorter than the whole result.
- * The words behind a result are kept.
+ * Words behind a result are kept.
  */
 
 /* The number of pairs of the empty map, 0. */
@@ -178,7 +181,7 @@ struct sibukyaran_numbers sibukyaran_baby_steps(const int64_t *indexes, size_t i
 struct sibukyaran_numbers sibukyaran_baby_step(const int64_t *indexes, size_t indexes_len, size_t slots,
                                                size_t giant_step);
 
-/* The rotations that a run of the plan needs keys for, in the order of their first use. */
+/* The rotations that a run of the plan needs keys for: of the babies, then of the giants. */
 struct sibukyaran_numbers sibukyaran_plan_key_rotations(const int64_t *indexes, size_t indexes_len, size_t slots,
                                                         uint32_t strategy, size_t giant_step, uint32_t *out,
                                                         size_t out_len);
@@ -193,9 +196,9 @@ struct sibukyaran_numbers sibukyaran_optimal_bsgs_giant_step(const int64_t *inde
 /* ---- Rotations: a kind, a baby step, a giant step and slots, which count with powers of two only. Lists of babies and
  * giants come in any order with repeats.
  *
- * With powers of two, 1: slots. 3: a step is outside 1..65536; also a kind that there is not. 9: a baby is negative, above
- * 65535 or, with powers of two, no multiple of the baby step. 10: with powers of two, a giant's residue is no multiple of
- * the giant step. 12: a lent output is too short. */
+ * With powers of two, 1: slots. 3: a step is outside 1..65536. A kind that there is not has no steps: 1 if its slots are out
+ * of range, else 3. 9: a baby is negative, above 65535 or, with powers of two, no multiple of the baby step. 10: with
+ * powers of two, a giant's residue is no multiple of the giant step. 12: a lent output is too short. */
 #define SIBUKYARAN_PER_ROTATION 0
 #define SIBUKYARAN_POWERS_OF_TWO 1
 
@@ -204,8 +207,8 @@ struct sibukyaran_numbers sibukyaran_baby_closure(uint32_t rotations, size_t bab
                                                   const int64_t *babies, size_t babies_len, uint32_t *out,
                                                   size_t out_len);
 
-/* The passes over the babies, in their order: a pass is two words (rotation, number of moves), a move two (source,
- * target). None per rotation. */
+/* The passes over the babies, in their order: a pass is three words (rotation, number of moves, least word first), a move
+ * two (source, target). None per rotation. */
 struct sibukyaran_pass_numbers sibukyaran_baby_passes(uint32_t rotations, size_t baby_step, size_t giant_step,
                                                       size_t slots, const int64_t *babies, size_t babies_len,
                                                       uint32_t *passes, size_t passes_len, uint32_t *moves,
@@ -239,8 +242,9 @@ struct sibukyaran_numbers sibukyaran_giant_key_switches(uint32_t rotations, size
  * matrices are not count * d * d words, or the lists of terms differ in length. 8: a term is out of range. 12: pairs or
  * values is too short.
  *
- * The maps that read one entry or none, and per_matrix_map, are stored at the smallest period that holds them. They need
- * room for the map at period d * d; the values between the two totals are left in any state. */
+ * The maps from sigma to rows_right, and per_matrix_map, are stored at the smallest period that holds them. They need room
+ * for the map at period d * d; the values between the two totals are left in any state. The others need room for the
+ * stored map alone: tau_rep, rotate_rows_rep, left_mul_rep, first_row, first_col, slot_product and the products. */
 
 /* JKLS sigma: output (r, c) reads (r, r + c mod d). */
 struct sibukyaran_numbers sibukyaran_sigma(size_t slots, size_t log_d, uint32_t *pairs, size_t pairs_len,

@@ -10,7 +10,8 @@ use Rattle.diagonals.specs.Products.{product}
 use Rattle.diagonals.specs.SlotMaps.{termsOf, slotMap}
 use Rattle.diagonals.specs.Transposing.{transposed}
 use Rattle.diagonals.specs.Shrinking.{commonPeriod, shrunk}
-use Rattle.linear_transformation.specs.Plans.{named, diagonalsOf, babyOf, giantOf, babies, giants, babiesAt, planIndex, planPairs, wordsWith}
+use Rattle.linear_transformation.specs.Plans.{babyOf, giantOf, babies, giants, babiesAt, planIndex, planPairs, wordsWith}
+use Rattle.ring.specs.Residues.{named, diagonalsOf}
 use Rattle.linear_transformation.specs.Closures.{topBit, cleared, metIn, closure, targets, passes}
 use Rattle.linear_transformation.specs.Trees.{there, nodes, pairsAt, levelsOf, treeOf, treeKeys, treeSwitches}
 use Rattle.linear_transformation.specs.Schedules.{babyStep, babyMultiples, planBabies, planWords, planTree, planKeys, giantSwitches, planSwitches}

@@ -13,7 +13,8 @@ use Rattle.diagonals.specs.Products.{product}
 use Rattle.diagonals.specs.SlotMaps.{termsOf, slotMap}
 use Rattle.diagonals.specs.Transposing.{transposed}
 use Rattle.linear_transformation.specs.declared.digits.Rot.{Rot}
-use Rattle.linear_transformation.specs.Plans.{diagonalsOf, babies, giants, babiesAt}
+use Rattle.linear_transformation.specs.Plans.{babies, giants, babiesAt}
+use Rattle.ring.specs.Residues.{diagonalsOf}
 use Rattle.linear_transformation.specs.declared.LinearTransformationStrategy.the-variants.{Bsgs, BsgsPowersOfTwo}
 use Rattle.linear_transformation.specs.Schedules.{planWords, planTree, planKeys, planSwitches}
 use Rattle.linear_transformation.specs.Trees.{digitsOf}
@@ -28,7 +29,7 @@ at offset values = record { offset = offset; values = values }
 
 -- the slot map of E3: slots 4, period 2, terms (0,1,5), (0,1,7), (1,0,2)
 abbrev pub e3Map : List Diagonal
-e3Map = slotMap 4 2 (termsOf (0 ∷ 0 ∷ 1 ∷ []) (1 ∷ 1 ∷ 0 ∷ []) (5 ∷ 7 ∷ 2 ∷ []))
+e3Map = slotMap modulus 4 2 (termsOf (0 ∷ 0 ∷ 1 ∷ []) (1 ∷ 1 ∷ 0 ∷ []) (5 ∷ 7 ∷ 2 ∷ []))
 
 -- the diagonals of E6, of 16 slots
 abbrev pub e6Diagonals : List ℕ
@@ -66,5 +67,5 @@ pub record BenchExamples : Type 0 where
   pub e9-costs : (cost 8 e9Diagonals 6 ≡ 6) × (cost 8 e9Diagonals 3 ≡ 4)
   pub e10-plan : planWords 16 (BsgsPowersOfTwo 4) (diagonalsOf 16 []) ≡ 0 ∷ []
   pub e10-keys : (planKeys 16 (BsgsPowersOfTwo 4) (diagonalsOf 16 []) ≡ []) × (planKeys 16 (Bsgs 4) (diagonalsOf 16 []) ≡ [])
-  pub e11 : ruleMap 4 2 Sigma ≡ at 0 (1 ∷ 1 ∷ 0 ∷ 0 ∷ []) ∷ at 1 (0 ∷ 0 ∷ 1 ∷ 0 ∷ []) ∷ at 3 (0 ∷ 0 ∷ 0 ∷ 1 ∷ []) ∷ []
+  pub e11 : ruleMap modulus 4 2 Sigma ≡ at 0 (1 ∷ 1 ∷ 0 ∷ 0 ∷ []) ∷ at 1 (0 ∷ 0 ∷ 1 ∷ 0 ∷ []) ∷ at 3 (0 ∷ 0 ∷ 0 ∷ 1 ∷ []) ∷ []
   pub e12 : mulm modulus (2 ^ 63) 2 ≡ 0

@@ -15,8 +15,8 @@ use Rattle.ring.specs.Laws.Periods.{min-is, positive}
 use Rattle.diagonals.specs.Maps.{diagonalAt, lengthAt, startAt, view, WellFormed}
 use Rattle.diagonals.specs.Shrinking.{commonPeriod}
 use Rattle.ring.specs.Refusals.{Range}
-use Rattle.diagonals.specs.Steps.{Common}
-use Rattle.diagonals.specs.Laws.Maps.{start-more, values-end, view-more, each-view, length-values}
+use Rattle.diagonals.specs.Steps.Writing.{Common}
+use Rattle.diagonals.specs.Laws.Maps.{start-more, values-end, view-more, each-view}
 
 pub record Folding (slots count : ℕ) (pairs values : List ℕ) (period start i : ℕ) : Type 0 where
   pub room : i ≤ count
@@ -35,10 +35,10 @@ smallestAt pairs values i = minPeriod (diagonalAt pairs values i .values)
 -- the smallest period of a stored one divides slots
 module _ {slots count : ℕ} {pairs values : List ℕ} (w : WellFormed slots count pairs values) (i : ℕ) (l : i < count) where
   some-values : 1 ≤ length (diagonalAt pairs values i .values)
-  some-values = rw (length-values i w l) (w .each i l .some)
+  some-values = w .each i l .some
 
   pub smallest-divides : smallestAt pairs values i ∣ slots
-  smallest-divides = dvd-trans _ (min-is _ some-values .divides) (rw (length-values i w l) (w .each i l .divides))
+  smallest-divides = dvd-trans _ (min-is _ some-values .divides) (w .each i l .divides)
 
   pub smallest-some : 1 ≤ smallestAt pairs values i
   smallest-some = positive (min-is _ some-values)
@@ -65,14 +65,14 @@ module _ {slots count : ℕ} {pairs values : List ℕ} {period start i : ℕ} (w
 
   -- where the values of the i-th end
   pub folding-end : start + lengthAt pairs i ≤ length values
-  folding-end = rw (f .start-is) (values-end i w l)
+  folding-end = rw (f .start-is) (values-end w i l)
 
   -- the part of the values that is the i-th period
   pub part-is : {x : ℕ} → x ≡ lengthAt pairs i → take x (drop start values) ≡ diagonalAt pairs values i .values
   part-is e = rw (e, f .start-is)
 
   pub part-range : {x : ℕ} → Range slots → x ≡ lengthAt pairs i → Range (length (take x (drop start values)))
-  part-range r e = rw (part-is e, length-values i w l) (record { low = w .each i l .some; high = omega (arith, le-of-dvd (r .low) (w .each i l .divides), r .high) })
+  part-range r e = rw (part-is e) (record { low = w .each i l .some; high = omega (arith, le-of-dvd (r .low) (w .each i l .divides), r .high) })
 
   -- the two periods whose common one is taken
   pub smallest-range : Range slots → Range (smallestAt pairs values i)

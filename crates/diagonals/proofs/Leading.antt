@@ -1,6 +1,7 @@
 -- The diagonal that stays first in the transposed map, and the number of values of that map.
 -- Assumes nothing.
-use Prim.Native.Nat.{ℕ, zero, suc, _+_, _-_, _*_, _≤_, _<_}
+use Rattle.ring.specs.Refusals.{firstOf}
+use Prim.Native.Nat.{ℕ, zero, suc, _+_, _-_, _≤_, _<_}
 use mathlib.Core.Path.{_≡_, refl, sym, ap, _∙_}
 use mathlib.Core.Bool.{Bool, true, false, cond, _&&_}
 use mathlib.Core.List.{List, _∷_, []}
@@ -15,15 +16,16 @@ use Rattle.ring.specs.Laws.Searches.{first as first-of}
 use Rattle.ring.specs.Laws.Vectors.{length-tabulate, tabulate-more}
 use Rattle.ring.specs.Rotations.{rotated}
 use Rattle.ring.specs.Laws.Rotations.{length-rotated}
-use Rattle.diagonals.specs.Maps.{Diagonal, diagonalAt, offsetAt, lengthAt, startAt, view, WellFormed}
-use Rattle.diagonals.specs.Setting.{pairWords, valueWords}
+use Rattle.diagonals.specs.Maps.{Diagonal, diagonalAt, offsetAt, lengthAt, startAt, view, WellFormed, pairWords, valueWords, pairRoom}
 use Rattle.diagonals.specs.Transposing.{opposite, turned, transposed}
-use Rattle.diagonals.specs.Steps.{Words, Placed, Turning, Turned, Transposing, Rest, leading, turnedAt}
-use Rattle.diagonals.specs.Calls.{noRoom}
-use Rattle.diagonals.specs.Laws.Calls.{no-room-pairs, no-room-values, room-for}
-use Rattle.diagonals.specs.Laws.Maps.{length-values, start-more, start-mono}
+use Rattle.diagonals.specs.Steps.Writing.{Words, Turning, Turned, Transposing, Rest, leading, turnedAt}
+use Rattle.diagonals.specs.Steps.Reading.{Placed}
+use Rattle.diagonals.specs.Calls.{mapRoom, RoomJudged}
+use Rattle.diagonals.specs.Laws.Calls.{room-of}
+use Rattle.diagonals.specs.Laws.Maps.{stored-some, stored-divides, values-inside, start-more, start-mono}
 use Rattle.diagonals.specs.Laws.Writing.{words-none, words-appended, words-then, words-there, words-lengths}
-use Rattle.diagonals.specs.Laws.Words.{valueWords-more, length-pairWords}
+use Rattle.diagonals.specs.Laws.Words.{valueWords-more}
+use Rattle.diagonals.specs.Laws.Pairs.{length-pairWords, room-mono}
 use Rattle.diagonals.specs.Laws.Transposing.{transposed-is, turned-values}
 use Rattle.diagonals.proofs.Turnings.{front-of}
 
@@ -32,7 +34,7 @@ leads count pairs = ltb 0 count && eqb (offsetAt pairs 0) 0
 
 module _ {slots count : ℕ} {pairs values : List ℕ} (w : WellFormed slots count pairs values) where
   turned-length : (i : ℕ) → i < count → length (turned slots (diagonalAt pairs values i) .values) ≡ lengthAt pairs i
-  turned-length i l = length-rotated (diagonalAt pairs values i .values) _ _ ∙ length-values i w l
+  turned-length i l = length-rotated (diagonalAt pairs values i .values) _ _ ∙ w .whole i l
 
   -- ---- how many values the transposed map has
 
@@ -82,9 +84,6 @@ module _ {slots count : ℕ} {pairs values : List ℕ} (w : WellFormed slots cou
   pub length-transposed : length (transposed slots (view count pairs values)) ≡ count
   length-transposed = rw (transposed-is slots pairs values count) (length-tabulate count _)
 
-  pub pairs-transposed : length (pairWords (transposed slots (view count pairs values))) ≡ 2 * count
-  pairs-transposed = length-pairWords (transposed slots (view count pairs values)) ∙ ap (λ (n : ℕ). 2 * n) length-transposed
-
 -- ---- the first that stay
 
 module _ {slots count : ℕ} {pairs values : List ℕ} {total : ℕ} {pairs₀ values₀ : List ℕ} (t : Transposing slots count pairs values total pairs₀ values₀) where
@@ -106,13 +105,13 @@ module _ {slots count : ℕ} {pairs values : List ℕ} {total : ℕ} {pairs₀ v
     part-is = rw (sub-zero, ew)
 
     part-length : length part ≡ w
-    part-length = ap length part-is ∙ length-values 0 (t .formed) some-first ∙ sym ew
+    part-length = ap length part-is ∙ t .formed .whole 0 some-first ∙ sym ew
 
     first-fits : w ≤ startAt pairs count
     first-fits = omega (arith, start-mono pairs 1 count some-first)
 
     pub first-inside : w ≤ length values
-    first-inside = omega (arith, first-fits, t .formed .values-inside)
+    first-inside = omega (arith, first-fits, values-inside (t .formed))
 
     pub first-turning : Turning slots pairs 0 part 0 0 pairs₀ values₀
     first-turning =
@@ -120,10 +119,9 @@ module _ {slots count : ℕ} {pairs values : List ℕ} {total : ℕ} {pairs₀ v
         let s = t .slots-in in
         record {
           slots-in = s;
-          pair-inside = omega (arith, some-first, t .formed .pairs-inside);
           low = f .low;
-          part-in = rw part-length (record { low = omega (arith, f .some); high = omega (arith, le-of-dvd (s .low) (f .divides), s .high) });
-          pairs-room = omega (arith, some-first, t .pairs-room);
+          part-in = rw part-length (record { low = omega (arith, stored-some (t .formed) 0 some-first); high = omega (arith, le-of-dvd (s .low) (stored-divides (t .formed) 0 some-first), s .high) });
+          pairs-room = omega (arith, some-first, t .pairs-room, room-mono 1 count some-first);
           values-room = omega (arith, part-length, first-fits, t .total-is, t .values-room);
         }
 
@@ -144,7 +142,7 @@ module _ {slots count : ℕ} {pairs values : List ℕ} {total : ℕ} {pairs₀ v
           (turned-values part k (first-turning .part-in .low) ∙ ap (λ (v : List ℕ). rotated v (pos k) (length v)) part-is)
           a
 
-      one-pairs : length (pairWords (d ∷ [])) ≡ 2
+      one-pairs : length (pairWords (d ∷ [])) ≡ pairRoom 1
       one-pairs = length-pairWords (d ∷ [])
 
       one-values : length (valueWords (d ∷ [])) ≡ w
@@ -169,7 +167,7 @@ module _ {slots count : ℕ} {pairs values : List ℕ} {total : ℕ} {pairs₀ v
       pub rest-done : {pairs₂ values₂ : List ℕ} → Words (transposed slots (view count pairs values)) pairs₁ pairs₂ values₁ values₂ → Words (transposed slots (view count pairs values)) pairs₀ pairs₂ values₀ values₂
       rest-done v =
           words-then one v
-          (omega (arith, one-pairs, pairs-transposed (t .formed), some-first))
+          (omega (arith, one-pairs, length-pairWords (transposed slots (view count pairs values)), ap pairRoom (length-transposed (t .formed)), room-mono 1 count some-first))
           (omega (arith, one-pairs, first-turning .pairs-room))
           (omega (arith, one-values, values-transposed (t .formed), first-fits))
           (omega (arith, one-values, part-length, first-turning .values-room))
@@ -188,11 +186,5 @@ module _ {slots count : ℕ} {pairs values : List ℕ} (w : WellFormed slots cou
   abbrev ds : List Diagonal
   ds = transposed slots (view count pairs values)
 
-  pub transposed-no-pairs : length pairs₀ < 2 * count → noRoom ds pairs₀ values₀ ≡ true
-  transposed-no-pairs l = no-room-pairs ds pairs₀ values₀ (rw (length-transposed w) l)
-
-  pub transposed-no-values : length values₀ < total → noRoom ds pairs₀ values₀ ≡ true
-  transposed-no-values l = no-room-values ds pairs₀ values₀ (rw (values-transposed w, ← e) l)
-
-  pub transposed-room : 2 * count ≤ length pairs₀ → total ≤ length values₀ → noRoom ds pairs₀ values₀ ≡ false
-  transposed-room a b = room-for ds pairs₀ values₀ (rw (length-transposed w) a) (rw (values-transposed w, ← e) b)
+  pub transposed-room : {r : ℕ} → RoomJudged count total (length pairs₀) (length values₀) r → r ≡ firstOf (mapRoom ds pairs₀ values₀)
+  transposed-room j = room-of ds pairs₀ values₀ (sym (length-transposed w)) (e ∙ sym (values-transposed w)) j

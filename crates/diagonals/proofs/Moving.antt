@@ -1,15 +1,17 @@
 -- Words that a loop copies within a buffer or into it, from the front or from the end, and what two copies make.
 -- Assumes nothing.
+use Rattle.diagonals.specs.Laws.Pairs.{room-mono, room-add, length-pairOf, length-put, put-is, pair-at, offset-take, length-take-pairs}
+use Rattle.diagonals.specs.Maps.{Diagonal, pairRoom, offsetAt, lengthAt, putPair, pairOf}
 use Prim.Native.Nat.{ℕ, suc, _+_, _-_, _≤_, _<_}
 use mathlib.Core.Path.{_≡_, refl, sym, ap, _∙_}
-use mathlib.Core.List.{List, [], _∷_, _++_, append-assoc}
+use mathlib.Core.List.{List, _++_, append-assoc}
 use native.Mathlib.Nat.{add-suc, suc-add}
 use native.Mathlib.Numerals.{add-one}
 use native.Mathlib.Omega.{arith}
 use lib.ListN.{length, getD, set, take, drop, length-set, length-append, length-drop, take-append-drop, List·getD-append}
-use lib.Seq.{paste, paste-zero, paste-suc, length-paste-head, length-take-le, take-suc, drop-cons, take-add, take-append-le, take-take, drop-at, set-at, getD-take, getD-drop, getD-append-add, take-length, sets-eq}
+use lib.Seq.{paste, paste-zero, paste-suc, length-paste-head, length-take-le, take-suc, drop-cons, take-add, take-append-le, take-take, drop-at, set-at, getD-take, getD-drop, getD-append-add, take-length, drop-drop}
 use Rattle.ring.specs.Vectors.{inFront}
-use Rattle.diagonals.specs.Steps.{Spliceable, spliced}
+use Rattle.diagonals.specs.Steps.Setting.{Spliceable, spliced, PairSpliceable, PairSpliced}
 
 -- ---- words of a copy
 
@@ -106,6 +108,72 @@ splice-done {A} w new {x} {at} {from} {end} h e f =
     let len : length (take at w ++ (new ++ moved)) ≡ at + n + (end - from) = omega (arith, length-append (take at w) (new ++ moved), length-append new moved, length-take-le at w (omega arith)) in
     rw (f, front, back, take-length, len) (simp append-assoc)
 
--- two stores, as a copy of two words
-pub pair-written : {A : Type 0} (d : List A) (at : ℕ) (a b : A) → at + 2 ≤ length d → set (set d at a) (at + 1) b ≡ paste d at (a ∷ b ∷ []) 2
-pair-written d at a b h = rw add-one (sets-eq (a ∷ b ∷ []) d at h)
+-- ---- pairs that move to the right by one
+
+module _ {d₀ d : List ℕ} (i n : ℕ) (r : FromEnd d₀ d (pairRoom (i + 1 + 1)) (pairRoom (i + 1)) n) (h : pairRoom (i + 1 + 1) + n ≤ length d₀) where
+  abbrev t : ℕ
+  t = pairRoom (i + 1 + 1)
+
+  abbrev f : ℕ
+  f = pairRoom (i + 1)
+
+  order : f ≤ t
+  order = room-mono (i + 1) (i + 1 + 1) (omega arith)
+
+  moved : List ℕ
+  moved = take n (drop f d₀)
+
+  front-same : take f d ≡ take f d₀
+  unfolding moved
+  front-same = rw (r .so-far, append-assoc) (take-append-le f (take t d₀) _ (omega (arith, order, length-take-le t d₀ (omega arith))) ∙ take-take f t d₀ order)
+
+  back-same : drop t d ≡ moved ++ drop (t + n) d₀
+  unfolding moved
+  back-same = rw (r .so-far, append-assoc) (drop-at (take t d₀) _ t (length-take-le t d₀ (omega arith)))
+
+  offset-same : offsetAt d i ≡ offsetAt d₀ i
+  offset-same = sym (offset-take d (i + 1) i (omega arith)) ∙ ap (λ (x : List ℕ). offsetAt x i) front-same ∙ offset-take d₀ (i + 1) i (omega arith)
+
+  length-same : lengthAt d i ≡ lengthAt d₀ i
+  length-same = sym (length-take-pairs d (i + 1) i (omega arith)) ∙ ap (λ (x : List ℕ). lengthAt x i) front-same ∙ length-take-pairs d₀ (i + 1) i (omega arith)
+
+  -- a pair more
+  pub pairs-moved : FromEnd d₀ (putPair d (i + 1) (offsetAt d i) (lengthAt d i)) (pairRoom (i + 1)) (pairRoom i) (pairRoom 1 + n)
+  unfolding moved
+  pairs-moved =
+      record {
+        so-far =
+            put-is d (i + 1) (offsetAt d i) (lengthAt d i) (omega (arith, r .len))
+            ∙ rw (front-same, back-same, offset-same, length-same, take-add (pairRoom 1) n (drop (pairRoom i) d₀), drop-drop, ← (room-add i 1), pair-at d₀ i (omega (arith, order)), sum)
+            (simp append-assoc);
+        len = length-put d (i + 1) (offsetAt d i) (lengthAt d i) ∙ r .len;
+      }
+    where
+      sum : pairRoom (i + 1) + (pairRoom 1 + n) ≡ pairRoom (i + 1 + 1) + n
+      sum = omega (arith, room-add (i + 1) 1)
+
+-- a turn: the pairs from i on stand one further, and then the pair before them too
+pub pairs-turn : {d₀ d d′ : List ℕ} {offset len : ℕ} (count i i′ : ℕ) → FromEnd d₀ d (pairRoom (i + 1)) (pairRoom i) (pairRoom count - pairRoom i) → i ≡ i′ + 1 → i ≤ count → pairRoom (count + 1) ≤ length d₀
+    → offset ≡ offsetAt d i′ → len ≡ lengthAt d i′ → d′ ≡ putPair d (i′ + 1) offset len → FromEnd d₀ d′ (pairRoom (i′ + 1)) (pairRoom i′) (pairRoom count - pairRoom i′)
+pairs-turn {d₀} {d} count i i′ r e l h eo el ed =
+    let q : pairRoom 1 + (pairRoom count - pairRoom (i′ + 1)) ≡ pairRoom count - pairRoom i′ = omega (arith, room-add i′ 1, room-mono (i′ + 1) count (omega arith)) in
+    rw (ed, eo, el, ← q)
+    (pairs-moved i′ (pairRoom count - pairRoom (i′ + 1)) (rw e at r) (omega (arith, room-add (i′ + 1) 1, room-add count 1, room-mono (i′ + 1) count (omega arith))))
+
+-- a pair put is a copy of its words
+pub put-written : (d : List ℕ) (i : ℕ) (x : Diagonal) {offset len : ℕ} → offset ≡ x .offset → len ≡ length (x .values) → pairRoom (i + 1) ≤ length d → putPair d i offset len ≡ paste d (pairRoom i) (pairOf x) (length (pairOf x))
+unfolding pairOf
+put-written d i x {offset} {len} eo el h =
+    let e : pairRoom (i + 1) ≡ pairRoom i + 2 = room-add i 1 ∙ ap (λ (r : ℕ). pairRoom i + r) (sym (length-pairOf x)) in
+    put-is d i offset len h ∙ rw (eo, el, e, append-assoc)
+
+-- the pairs behind moved, and then the pair put: the pair is spliced in
+pub pair-spliced : (w : List ℕ) {x y : List ℕ} {index behind count k len : ℕ} → PairSpliceable index behind count w → length x ≡ length w
+    → x ≡ paste w (pairRoom (index + 1)) (drop (pairRoom behind) w) (pairRoom count - pairRoom behind) → y ≡ putPair x index k len → PairSpliced index behind count k len w y
+pair-spliced w {x} {index} s l e f =
+    record {
+      is = λ d ek el.
+          let m : length (pairOf d) ≡ pairRoom 1 = length-pairOf d in
+          let q : pairRoom (index + 1) ≡ pairRoom index + length (pairOf d) = room-add index 1 ∙ ap (λ (r : ℕ). pairRoom index + r) (sym m) in
+          splice-done w (pairOf d) (rw m (s .inside)) (rw (← q) e) (f ∙ put-written x index d ek el (omega (arith, room-add index 1, s .inside .fits)));
+    }

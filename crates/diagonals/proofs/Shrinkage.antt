@@ -1,26 +1,25 @@
 -- What the loop of `write_shrunk` keeps, and a turn.
 -- Assumes nothing.
-use Prim.Native.Nat.{ℕ, _+_, _*_, _/_, _≤_, _<_}
-use mathlib.Core.Bool.{true, false}
+use Rattle.ring.specs.Refusals.{firstOf}
+use Prim.Native.Nat.{ℕ, _+_, _*_, _≤_, _<_}
 use mathlib.Core.Path.{_≡_, refl, sym, ap, _∙_}
 use mathlib.Core.List.{List, [], _∷_, map, map-append}
-use native.Mathlib.Nat.{add-zero, zero-mul, suc-mul, mul-le-mul-right, div-lt-iff-lt-mul, le-div-iff-mul-le}
+use native.Mathlib.Nat.{add-zero, zero-mul, suc-mul, mul-le-mul-right}
 use native.Mathlib.Numerals.{add-one}
 use native.Mathlib.Omega.{arith}
 use lib.ListN.{length, take, drop, length-map}
 use Rattle.ring.specs.Vectors.{tabulate}
 use Rattle.ring.specs.Laws.Lists.{each-map, each-all}
 use Rattle.ring.specs.Laws.Vectors.{length-tabulate, tabulate-cong}
-use Rattle.diagonals.specs.Maps.{Diagonal, diagonalAt, offsetAt, lengthAt, startAt, view}
+use Rattle.diagonals.specs.Maps.{Diagonal, diagonalAt, offsetAt, lengthAt, startAt, view, valueWords, pairRoom}
 use Rattle.diagonals.specs.Products.{cell}
-use Rattle.diagonals.specs.Setting.{pairWords, valueWords}
 use Rattle.diagonals.specs.Shrinking.{atPeriod, shrunk}
-use Rattle.diagonals.specs.Calls.{noRoom}
-use Rattle.diagonals.specs.Laws.Calls.{no-room-pairs, no-room-values, room-for}
-use Rattle.diagonals.specs.Steps.{spin, Appending, Appended, Common, Shrinking, Words}
-use Rattle.diagonals.specs.Laws.Maps.{length-view, length-values, values-end, start-more, view-more}
+use Rattle.diagonals.specs.Calls.{mapRoom, RoomJudged}
+use Rattle.diagonals.specs.Laws.Calls.{room-of}
+use Rattle.diagonals.specs.Steps.Writing.{spin, Appending, Appended, Common, Shrinking, Words}
+use Rattle.diagonals.specs.Laws.Maps.{length-view, values-end, start-more, view-more}
 use Rattle.diagonals.specs.Laws.Writing.{words-none, words-appended, words-lengths, length-valueWords}
-use Rattle.diagonals.specs.Laws.Words.{length-pairWords}
+use Rattle.diagonals.specs.Laws.Pairs.{room-mono}
 
 -- the diagonals passed, at the period
 abbrev pub passed : List ℕ → List ℕ → ℕ → ℕ → List Diagonal
@@ -54,12 +53,12 @@ module _ {slots count : ℕ} {pairs values : List ℕ} {period : ℕ} {pairs₀ 
   pub shrinkage-lengths : (length pairs₁ ≡ length pairs₀) × (length values₁ ≡ length values₀)
   shrinkage-lengths =
       words-lengths (h .words)
-      (omega (arith, length-passed pairs values period i, h .room, s .pairs-room))
+      (omega (arith, ap pairRoom (length-passed pairs values period i), room-mono i count (h .room), s .pairs-room))
       (omega (arith, values-passed pairs values period i, s .values-room, mul-le-mul-right period (h .room)))
 
-  pub shrinkage-more : {pairs₂ values₂ src : List ℕ} {e : ℕ} → i < count → e ≡ start + lengthAt pairs i → src ≡ diagonalAt pairs values i .values
-      → Appended src 0 (offsetAt pairs i) period i at pairs₁ pairs₂ values₁ values₂ → Shrinkage count pairs values period pairs₀ pairs₂ values₀ values₂ e (at + period) (i + 1)
-  shrinkage-more {pairs₂} {values₂} {src} l ee es a =
+  pub shrinkage-more : {pairs₂ values₂ src : List ℕ} {offset : ℕ} {e : ℕ} → i < count → e ≡ start + lengthAt pairs i → src ≡ diagonalAt pairs values i .values
+      → offset ≡ offsetAt pairs i → Appended src 0 offset period i at pairs₁ pairs₂ values₁ values₂ → Shrinkage count pairs values period pairs₀ pairs₂ values₀ values₂ e (at + period) (i + 1)
+  shrinkage-more {pairs₂} {values₂} {src} l ee es eo a =
       let d = atPeriod period (diagonalAt pairs values i) in
       let same : tabulate period (spin src 0) ≡ d .values = tabulate-cong period (spin src 0) (cell (diagonalAt pairs values i .values)) (λ t m. rw (es, add-zero)) in
       let n : length (d .values) ≡ period = length-tabulate period (cell (diagonalAt pairs values i .values)) in
@@ -69,12 +68,12 @@ module _ {slots count : ℕ} {pairs values : List ℕ} {period : ℕ} {pairs₀ 
         at-is = omega (arith, h .at-is, suc-mul i period, ap (λ (x : ℕ). x * period) (add-one i));
         words =
             rw (ap (map (atPeriod period)) (view-more i pairs values) ∙ map-append (atPeriod period) (view i pairs values) (diagonalAt pairs values i ∷ []))
-            (words-appended d (h .words) (sym (length-passed pairs values period i)) (h .at-is ∙ sym (values-passed pairs values period i)) (omega (arith, s .pairs-room)) (shrinkage-fits l) refl (sym n) same a);
+            (words-appended d (h .words) (sym (length-passed pairs values period i)) (h .at-is ∙ sym (values-passed pairs values period i)) (omega (arith, s .pairs-room, room-mono (i + 1) count (omega arith))) (shrinkage-fits l) eo (sym n) same a);
       }
 
   -- the part of the values that is the i-th period
   pub shrinkage-end : i < count → start + lengthAt pairs i ≤ length values
-  shrinkage-end l = rw (h .start-is) (values-end i (s .formed) l)
+  shrinkage-end l = rw (h .start-is) (values-end (s .formed) i l)
 
   pub shrinkage-part : {x : ℕ} → x ≡ lengthAt pairs i → take x (drop start values) ≡ diagonalAt pairs values i .values
   shrinkage-part e = rw (e, h .start-is)
@@ -82,9 +81,9 @@ module _ {slots count : ℕ} {pairs values : List ℕ} {period : ℕ} {pairs₀ 
   pub shrinkage-appending : {x : ℕ} → i < count → x ≡ lengthAt pairs i → Appending (take x (drop start values)) 0 period i at pairs₁ values₁
   shrinkage-appending l e =
       record {
-        turn = rw (shrinkage-part e, length-values i (s .formed) l) (s .formed .each i l .some);
+        turn = rw (shrinkage-part e) (s .formed .each i l .some);
         small = s .period-in .high;
-        pairs-room = omega (arith, s .pairs-room, shrinkage-lengths .0);
+        pairs-room = omega (arith, s .pairs-room, shrinkage-lengths .0, room-mono (i + 1) count (omega arith));
         values-room = omega (arith, shrinkage-fits l, shrinkage-lengths .1);
       }
 
@@ -104,23 +103,11 @@ module _ (count : ℕ) (pairs values : List ℕ) {period : ℕ} (c : Common (vie
   pub length-shrunk : length ds ≡ count
   length-shrunk = rw is-passed (length-passed pairs values period count)
 
-  pairs-shrunk : length (pairWords ds) ≡ 2 * count
-  pairs-shrunk = length-pairWords ds ∙ ap (λ (n : ℕ). 2 * n) length-shrunk
-
   values-shrunk : length (valueWords ds) ≡ count * period
   values-shrunk = rw is-passed (values-passed pairs values period count)
 
-  module _ (pairs₀ values₀ : List ℕ) where
-    pub shrunk-no-pairs : length pairs₀ < 2 * count → noRoom ds pairs₀ values₀ ≡ true
-    shrunk-no-pairs l = no-room-pairs ds pairs₀ values₀ (rw length-shrunk l)
-
-    pub shrunk-no-values : length values₀ / period < count → noRoom ds pairs₀ values₀ ≡ true
-    shrunk-no-values l = no-room-values ds pairs₀ values₀ (rw values-shrunk (div-lt-iff-lt-mul (c .range .low) .0 l))
-
-    pub shrunk-room : 2 * count ≤ length pairs₀ → count ≤ length values₀ / period → (noRoom ds pairs₀ values₀ ≡ false) × (count * period ≤ length values₀)
-    shrunk-room a b =
-        let h = le-div-iff-mul-le (c .range .low) .0 b in
-        (room-for ds pairs₀ values₀ (rw length-shrunk a) (rw values-shrunk h), h)
+  pub shrunk-room : (pairs₀ values₀ : List ℕ) {r : ℕ} → RoomJudged count (count * period) (length pairs₀) (length values₀) r → r ≡ firstOf (mapRoom ds pairs₀ values₀)
+  shrunk-room pairs₀ values₀ j = room-of ds pairs₀ values₀ (sym length-shrunk) (sym values-shrunk) j
 
   pub shrunk-words : {pairs₀ pairs₁ values₀ values₁ : List ℕ} → Words (passed pairs values period count) pairs₀ pairs₁ values₀ values₁ → Words ds pairs₀ pairs₁ values₀ values₁
   shrunk-words w = rw is-passed w

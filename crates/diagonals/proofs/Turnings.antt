@@ -1,5 +1,6 @@
 -- What the loop of `write_rest` keeps, and a turn.
 -- Assumes nothing.
+use Rattle.diagonals.specs.Laws.Pairs.{room-mono}
 use Prim.Native.Nat.{ℕ, _+_, _-_, _≤_, _<_}
 use mathlib.Core.Path.{_≡_, refl, sym, ap, _∙_}
 use mathlib.Core.List.{List, _∷_, [], _++_}
@@ -12,11 +13,10 @@ use Rattle.ring.specs.Vectors.{tabulate}
 use Rattle.ring.specs.Laws.Vectors.{length-tabulate, tabulate-more}
 use Rattle.ring.specs.Rotations.{rotated}
 use Rattle.ring.specs.Laws.Rotations.{length-rotated}
-use Rattle.diagonals.specs.Maps.{Diagonal, diagonalAt, offsetAt, lengthAt, startAt, view}
-use Rattle.diagonals.specs.Setting.{valueWords}
+use Rattle.diagonals.specs.Maps.{Diagonal, diagonalAt, offsetAt, lengthAt, startAt, view, valueWords, pairRoom}
 use Rattle.diagonals.specs.Transposing.{opposite, turned, transposed}
-use Rattle.diagonals.specs.Steps.{Words, Turning, Turned, Rest, source, turnedAt}
-use Rattle.diagonals.specs.Laws.Maps.{length-values, start-more, start-mono}
+use Rattle.diagonals.specs.Steps.Writing.{Words, Turning, Turned, Rest, source, turnedAt}
+use Rattle.diagonals.specs.Laws.Maps.{stored-some, stored-divides, values-inside, start-more, start-mono}
 use Rattle.diagonals.specs.Laws.Words.{valueWords-more}
 use Rattle.diagonals.specs.Laws.Writing.{words-appended, words-lengths}
 use Rattle.diagonals.specs.Laws.Transposing.{transposed-is, turned-values}
@@ -52,7 +52,7 @@ module _ {slots count first : ℕ} {pairs values : List ℕ} {total front : ℕ}
     pub turnings-lengths : (length pairs₁ ≡ length pairs₀) × (length values₁ ≡ length values₀)
     turnings-lengths =
         words-lengths (t .words)
-        (omega (arith, length-tabulate n (turnedAt slots count first pairs values), r .whole .pairs-room, t .room))
+        (omega (arith, ap pairRoom (length-tabulate n (turnedAt slots count first pairs values)), room-mono n count (t .room), r .whole .pairs-room))
         (omega (arith, t .at-is, t .at-end, t .end-is, start-mono pairs first i (omega (arith, t .down, t .room)), r .whole .values-room))
 
     module _ (l : n < count) where
@@ -79,7 +79,7 @@ module _ {slots count first : ℕ} {pairs values : List ℕ} {total front : ℕ}
         turnings-fits = omega (arith, starts)
 
         pub turnings-inside : end ≤ length values
-        turnings-inside = omega (arith, t .end-is, start-mono pairs i count (omega (arith, t .down, t .low)), r .whole .formed .values-inside)
+        turnings-inside = omega (arith, t .end-is, start-mono pairs i count (omega (arith, t .down, t .low)), values-inside (r .whole .formed))
 
         pub turnings-part : take (end - (end - w)) (drop (end - w) values) ≡ diagonalAt pairs values taken .values
         turnings-part =
@@ -87,7 +87,7 @@ module _ {slots count first : ℕ} {pairs values : List ℕ} {total front : ℕ}
             rw (e, turnings-start)
 
         part-length : length (take (end - (end - w)) (drop (end - w) values)) ≡ w
-        part-length = ap length turnings-part ∙ length-values taken (r .whole .formed) taken-low ∙ sym ew
+        part-length = ap length turnings-part ∙ r .whole .formed .whole taken taken-low ∙ sym ew
 
         pub turnings-room : at + w ≤ total
         turnings-room = omega (arith, t .at-end, starts, start-mono pairs first taken (omega (arith, t .down, t .low)))
@@ -98,10 +98,9 @@ module _ {slots count first : ℕ} {pairs values : List ℕ} {total front : ℕ}
             let s = r .whole .slots-in in
             record {
               slots-in = s;
-              pair-inside = omega (arith, taken-low, r .whole .formed .pairs-inside);
               low = f .low;
-              part-in = rw part-length (record { low = omega (arith, f .some); high = omega (arith, le-of-dvd (s .low) (f .divides), s .high) });
-              pairs-room = omega (arith, turnings-lengths .0, r .whole .pairs-room);
+              part-in = rw part-length (record { low = omega (arith, stored-some (r .whole .formed) taken taken-low); high = omega (arith, le-of-dvd (s .low) (stored-divides (r .whole .formed) taken taken-low), s .high) });
+              pairs-room = omega (arith, turnings-lengths .0, r .whole .pairs-room, room-mono (n + 1) count (omega arith));
               values-room = omega (arith, part-length, turnings-room, turnings-lengths .1, r .whole .values-room);
             }
 
@@ -122,7 +121,7 @@ module _ {slots count first : ℕ} {pairs values : List ℕ} {total front : ℕ}
               at-end = omega (arith, t .at-end, turnings-fits);
               at-is = rw (grown, valueWords-more, length-append, ← (t .at-is), ← size, part-length) (omega (arith, turnings-fits));
               words = rw grown
-                  (words-appended d (t .words) (sym (length-tabulate n (turnedAt slots count first pairs values))) (t .at-is) (omega (arith, r .whole .pairs-room)) (omega (arith, part-length, turnings-room, r .whole .values-room)) refl size
+                  (words-appended d (t .words) (sym (length-tabulate n (turnedAt slots count first pairs values))) (t .at-is) (omega (arith, r .whole .pairs-room, room-mono (n + 1) count (omega arith))) (omega (arith, part-length, turnings-room, r .whole .values-room)) refl size
                   (turned-values part k (omega (arith, turnings-turning .part-in .low)) ∙ ap (λ (v : List ℕ). rotated v (pos k) (length v)) turnings-part)
                   a);
             }

@@ -1,4 +1,5 @@
 -- What is proved of the definitions.
+pub mod Pairs
 pub mod Maps
 pub mod Words
 pub mod Calls

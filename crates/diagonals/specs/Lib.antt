@@ -1,4 +1,4 @@
--- Definitions, in the order of document 01; `Laws` has what is proved of them.
+-- Definitions, in the order of document 01; `Steps` has what private steps ask and ensure, `Laws` what is proved of them.
 pub mod Maps
 pub mod Products
 pub mod Setting
@@ -6,6 +6,6 @@ pub mod SlotMaps
 pub mod Shrinking
 pub mod Transposing
 pub mod Calls
+pub mod Building
 pub mod Steps
-pub mod SlotSteps
 pub mod Laws

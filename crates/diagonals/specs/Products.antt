@@ -7,6 +7,7 @@ use lib.Dec.{eqb}
 use lib.ListN.{length, getD}
 use Rattle.ring.specs.Slots.{mulm}
 use Rattle.ring.specs.Lists.{sumBy}
+use Rattle.ring.specs.Vectors.{tabulate}
 use Rattle.diagonals.specs.Maps.{Diagonal}
 
 -- one period of values read at slot i: values[i mod length]; 0 of no values
@@ -34,3 +35,7 @@ term m slots input i d = mulm m (cell (d .values) i) (getD input ((i + d .offset
 -- Halevi and Shoup's product modulo m, at slot i: the sum over the stored diagonals
 unfoldable pub product : ℕ → ℕ → List Diagonal → List ℕ → ℕ → ℕ
 product m slots ds input i = sumBy m (term m slots input i) ds
+
+-- a row of n entries times the vector, modulo m; `product-is-matrix` says that the product is that of the matrix's rows
+abbrev pub dot : ℕ → ℕ → (ℕ → ℕ) → List ℕ → ℕ
+dot m n row input = sumBy m (λ j. mulm m (row j) (getD input j 0)) (tabulate n (λ j. j))

@@ -6,7 +6,7 @@ use mathlib.Core.List.{List, [], _∷_, map}
 use lib.Dec.{eqb, ltb}
 use lib.IntN.{pos, _-ℤ_}
 use lib.ListN.{length, getD}
-use Rattle.ring.specs.Slots.{modulus, mulm}
+use Rattle.ring.specs.Slots.{mulm}
 use Rattle.ring.specs.Lists.{sumBy}
 use Rattle.ring.specs.Vectors.{tabulate}
 use Rattle.ring.specs.Residues.{residueOf}
@@ -40,23 +40,26 @@ reached slots (t ∷ ts) k = eqb (offsetOf slots t) k || reached slots ts k
 abbrev pub weight : ℕ → ℕ → ℕ → Term → ℕ
 weight slots k p t = cond (eqb (offsetOf slots t) k && eqb (t .i) p) (t .w) 0
 
--- diagonal k of the slot map: terms on one entry add up
-abbrev pub gathered : ℕ → ℕ → List Term → ℕ → Diagonal
-gathered slots period ts k = record { offset = k; values = tabulate period (λ p. sumBy modulus (weight slots k p) ts) }
+-- diagonal k of the slot map: terms on one entry add up modulo m
+abbrev pub gathered : ℕ → ℕ → ℕ → List Term → ℕ → Diagonal
+gathered m slots period ts k = record { offset = k; values = tabulate period (λ p. sumBy m (weight slots k p) ts) }
 
 -- how many numbers below k pass: the place of k among them
 abbrev pub rank : (ℕ → Bool) → ℕ → ℕ
 rank p k = length (below p k)
 
 -- each diagonal that a term reaches, stored at the period, zero or not
-unfoldable pub slotMap : ℕ → ℕ → List Term → List Diagonal
-slotMap slots period ts = map (gathered slots period ts) (below (reached slots ts) slots)
+unfoldable pub slotMap : ℕ → ℕ → ℕ → List Term → List Diagonal
+slotMap m slots period ts = map (gathered m slots period ts) (below (reached slots ts) slots)
 
 -- zeros at the offsets ks, stored at the period
-unfoldable pub zeroMap : ℕ → List ℕ → List Diagonal
-zeroMap period ks = map (λ k. record { offset = k; values = tabulate period (λ _. 0) }) ks
+abbrev pub zerosAt : ℕ → ℕ → Diagonal
+zerosAt period k = record { offset = k; values = tabulate period (λ _. 0) }
 
--- output i + q·period sums w·input[(j + q·period) mod slots] over the terms (i, j, w)
-unfoldable pub slotSum : ℕ → ℕ → List Term → List ℕ → ℕ → ℕ → ℕ
-slotSum slots period ts input i q =
-    sumBy modulus (λ t. cond (eqb (t .i) i) (mulm modulus (t .w) (getD input ((t .j + q * period) % slots) 0)) 0) ts
+unfoldable pub zeroMap : ℕ → List ℕ → List Diagonal
+zeroMap period ks = map (zerosAt period) ks
+
+-- output i + q·period sums, modulo m, w·input[(j + q·period) mod slots] over the terms (i, j, w)
+unfoldable pub slotSum : ℕ → ℕ → ℕ → List Term → List ℕ → ℕ → ℕ → ℕ
+slotSum m slots period ts input i q =
+    sumBy m (λ t. cond (eqb (t .i) i) (mulm m (t .w) (getD input ((t .j + q * period) % slots) 0)) 0) ts

@@ -1,6 +1,7 @@
 // The map store (poulpy's diagonals.rs): a map is slots, a count, u32 pairs (diagonal offset, stored
 // length) with offsets rising strictly, and u64 values back to back. Numbers of refusals are those
 // of document 01.
+mod pairs;
 mod reading;
 mod rotation;
 mod setting;
@@ -8,6 +9,11 @@ mod shrinking;
 mod slot_map;
 mod transposing;
 
+pub use pairs::has_pairs;
+pub use pairs::length_at;
+pub use pairs::offset_at;
+pub use pairs::put_pair;
+pub use pairs::room_refusal;
 pub use reading::Test;
 pub use reading::get;
 pub use reading::indexes;
@@ -24,14 +30,16 @@ pub use slot_map::zero_map;
 pub use transposing::transpose;
 ghost use mathlib.Core.Path.{_≡_};
 ghost use mathlib.Core.Bool.{_&&_};
-ghost use Prim.Native.Nat.{_*_, _%_, _^_, _≤_, _<_};
+ghost use Prim.Native.Nat.{_%_, _^_, _≤_, _<_};
 ghost use lib.Dec.{leb};
 ghost use lib.ListN.{length};
 ghost use Rattle.ring.specs.Vectors.{tabulate};
 ghost use Rattle.ring.specs.Divisors.{divides};
-ghost use Rattle.diagonals.specs.Maps.{startAt};
+ghost use Rattle.ring.specs.Searches.{every};
+ghost use Rattle.diagonals.specs.Maps.{pairRoom, startAt, formedAt};
 ghost use Rattle.diagonals.specs.Calls.{Judged};
-ghost use Rattle.diagonals.specs.Steps.{Divisor, Checked, Placed, spin, Appending, Appended};
+ghost use Rattle.diagonals.specs.Steps.Writing.{spin, Appending, Appended};
+ghost use Rattle.diagonals.specs.Steps.Reading.{Divisor, Placed};
 
 // Whether len is at least 1 and divides slots. Most lengths of a map are that of the diagonal
 // before, which divides, so the remainder is seldom taken.
@@ -48,20 +56,19 @@ fn is_period(slots: u32, last: u32, len: u32) -> bool
     slots % len == 0
 }
 
-// Whether `count` pairs of a map are well formed, with room for the values.
-fn is_formed(slots: u32, count: usize, pairs: &[u32], room: usize) -> bool
+// Whether each of `count` stored diagonals is well formed, with rising offsets.
+fn is_formed(slots: u32, count: usize, pairs: &[u32], values: &[u64]) -> bool
     requires { ⌜ (1 ≤ slots) × (slots ≤ 65536) ⌝ }
-    requires { ⌜ 2 * count ≤ length (now pairs) ⌝ }
-    ensures { λ r. ⌜ Checked slots count (now (pairs .entry)) room r ⌝ }
+    requires { ⌜ pairRoom count ≤ length (now pairs) ⌝ }
+    ensures { λ r. ⌜ r ≡ every (formedAt slots (now (pairs .entry)) (now (values .entry))) count ⌝ }
 {
     let mut total: usize = 0;
     let mut next: u32 = 0;
     let mut last: u32 = 1;
     let mut i = 0;
     while i < count {
-        let at = 2 * i;
-        let offset = pairs[at];
-        let len = pairs[at + 1];
+        let offset = pairs::offset_in(pairs, i);
+        let len = pairs::length_in(pairs, i);
         if offset < next {
             return false;
         }
@@ -76,7 +83,7 @@ fn is_formed(slots: u32, count: usize, pairs: &[u32], room: usize) -> bool
         total += ring::wide(len);
         i += 1;
     }
-    total <= room
+    total <= values.len()
 }
 
 // 1 or 2 where a lent map is refused, else 0.
@@ -86,10 +93,10 @@ pub fn map_refusal(slots: usize, count: usize, pairs: &[u32], values: &[u64]) ->
     if ring::is_outside(slots) {
         return 1;
     }
-    if pairs.len() / 2 < count {
+    if !has_pairs(pairs, count) {
         return 2;
     }
-    if !is_formed(slots as u32, count, pairs, values.len()) {
+    if !is_formed(slots as u32, count, pairs, values) {
         return 2;
     }
     0
@@ -102,21 +109,20 @@ struct Place {
 }
 
 fn place_of(count: usize, pairs: &[u32], k: u32) -> Place
-    requires { ⌜ 2 * count ≤ length (now pairs) ⌝ }
+    requires { ⌜ pairRoom count ≤ length (now pairs) ⌝ }
     requires { ⌜ startAt (now pairs) count ≤ 2 ^ 63 ⌝ }
     ensures { λ r. ⌜ Placed count (now (pairs .entry)) k (r .index) (r .start) ⌝ }
 {
     let mut start: usize = 0;
     let mut i = 0;
     while i < count {
-        let at = 2 * i;
-        if k <= pairs[at] {
+        if k <= pairs::offset_in(pairs, i) {
             return Place {
                 index: i,
                 start: start,
             };
         }
-        start += ring::wide(pairs[at + 1]);
+        start += ring::wide(pairs::length_in(pairs, i));
         i += 1;
     }
     Place {
@@ -178,9 +184,7 @@ fn append(
     requires { ⌜ Appending (now src) from len n at (now pairs) (now values) ⌝ }
     ensures { λ _. ⌜ Appended (now (src .entry)) from offset len n at (now (pairs .entry)) (now (pairs .exit)) (now (values .entry)) (now (values .exit)) ⌝ }
 {
-    let p = 2 * n;
-    pairs[p] = offset;
-    pairs[p + 1] = len as u32;
+    put_pair(pairs, n, offset, len as u32);
     let end = at + len;
     fill(src, from, &mut values[at..end]);
 }

@@ -1,13 +1,13 @@
 // The empty map, and reading one.
 ghost use mathlib.Core.Path.{_≡_};
-ghost use Prim.Native.Nat.{_*_, _≤_};
+ghost use Prim.Native.Nat.{_≤_};
 ghost use lib.Dec.{eqb};
 ghost use lib.ListN.{length};
 ghost use Rattle.ring.specs.Vectors.{filled};
 ghost use Rattle.ring.specs.Answers.{answered};
 ghost use Rattle.diagonals.specs.Maps.{offsetAt, view, WellFormed};
 ghost use Rattle.diagonals.specs.Calls.{newRefusal, mapRefusal, gotten, Indexes, tested};
-ghost use Rattle.diagonals.specs.Steps.{Stretched, Finding};
+ghost use Rattle.diagonals.specs.Steps.Reading.{Stretched, Finding};
 
 // The answer of a call that gives a truth.
 pub enum Test {
@@ -52,13 +52,12 @@ fn stretch_of(slots: usize, count: usize, pairs: &[u32], values: &[u64], k: u32)
     if i == count {
         return Stretch { start: 0, end: 0 };
     }
-    let at = 2 * i;
-    if pairs[at] != k {
+    if crate::offset_at(pairs, i) != k {
         return Stretch { start: 0, end: 0 };
     }
     Stretch {
         start: start,
-        end: start + ring::wide(pairs[at + 1]),
+        end: start + ring::wide(crate::length_at(pairs, i)),
     }
 }
 
@@ -118,12 +117,11 @@ pub fn period(slots: usize, count: usize, pairs: &[u32], values: &[u64], index: 
 }
 
 fn write_indexes(count: usize, pairs: &[u32], out: &mut [u32])
-    requires { ⌜ 2 * count ≤ length (now pairs) ⌝ }
     requires { ⌜ count ≤ length (now out) ⌝ }
     ensures { λ _. ⌜ now (out .exit) ≡ filled (offsetAt (now (pairs .entry))) count (now (out .entry)) ⌝ }
 {
     for i in 0..count {
-        out[i] = pairs[2 * i];
+        out[i] = crate::offset_at(pairs, i);
     }
 }
 

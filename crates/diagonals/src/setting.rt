@@ -1,15 +1,15 @@
 // Setting a diagonal in place.
 ghost use mathlib.Core.Path.{_≡_};
-ghost use mathlib.Core.List.{[], _∷_};
-ghost use Prim.Native.Nat.{_+_, _-_, _*_, _≤_};
+ghost use Prim.Native.Nat.{_+_, _-_, _≤_};
 ghost use lib.ListN.{length, drop};
 ghost use lib.Seq.{paste};
-ghost use Rattle.diagonals.specs.Maps.{startAt};
-ghost use Rattle.diagonals.specs.Calls.{setRefusal, setMap, MapWritten};
-ghost use Rattle.diagonals.specs.Steps.{Placed, NoPeriod, InOrder, Changed, Spliceable, spliced};
+ghost use Rattle.diagonals.specs.Maps.{pairRoom, startAt};
+ghost use Rattle.diagonals.specs.Calls.{SetWritten};
+ghost use Rattle.diagonals.specs.Steps.Setting.{NoPeriod, InOrder, Changed, Spliceable, spliced, PairSpliceable, PairSpliced};
+ghost use Rattle.diagonals.specs.Steps.Reading.{Placed};
 
 // Whether len is 0 or no divisor of slots: the test of refusal 4.
-fn is_no_period(slots: usize, len: usize) -> bool
+pub(crate) fn is_no_period(slots: usize, len: usize) -> bool
     ensures { λ r. ⌜ NoPeriod slots len r ⌝ }
 {
     if len == 0 {
@@ -32,8 +32,7 @@ fn behind_of(count: usize, pairs: &[u32], k: u32, index: usize, start: usize) ->
             start: start,
         };
     }
-    let at = 2 * index;
-    if pairs[at] != k {
+    if crate::offset_at(pairs, index) != k {
         return crate::Place {
             index: index,
             start: start,
@@ -41,7 +40,7 @@ fn behind_of(count: usize, pairs: &[u32], k: u32, index: usize, start: usize) ->
     }
     crate::Place {
         index: index + 1,
-        start: start + ring::wide(pairs[at + 1]),
+        start: start + ring::wide(crate::length_at(pairs, index)),
     }
 }
 
@@ -55,7 +54,7 @@ fn end_of(count: usize, pairs: &[u32], index: usize, start: usize) -> usize
     let mut end = start;
     let mut i = index;
     while i < count {
-        end += ring::wide(pairs[2 * i + 1]);
+        end += ring::wide(crate::length_at(pairs, i));
         i += 1;
     }
     end
@@ -163,33 +162,28 @@ fn splice(words: &mut [u64], start: usize, from: usize, end: usize, new: &[u64])
 
 // Where no pair is replaced, the pairs from index on move to the right by one.
 fn open_pair(pairs: &mut [u32], index: usize, behind: usize, count: usize)
-    requires { ⌜ Spliceable (2 * index) (2 * behind) (2 * count) 2 (length (now pairs)) ⌝ }
-    requires { ⌜ index ≤ behind ⌝ }
-    requires { ⌜ behind ≤ index + 1 ⌝ }
-    ensures { λ _. ⌜ now (pairs .exit) ≡ paste (now (pairs .entry)) (2 * index + 2) (drop (2 * behind) (now (pairs .entry))) (2 * count - 2 * behind) ⌝ }
+    requires { ⌜ PairSpliceable index behind count (now pairs) ⌝ }
+    ensures { λ _. ⌜ now (pairs .exit) ≡ paste (now (pairs .entry)) (pairRoom (index + 1)) (drop (pairRoom behind) (now (pairs .entry))) (pairRoom count - pairRoom behind) ⌝ }
 {
     if index != behind {
         return;
     }
-    let at = 2 * index;
-    let mut i = 2 * count;
-    while at < i {
+    let mut i = count;
+    while index < i {
         i -= 1;
-        pairs[i + 2] = pairs[i];
+        let offset = crate::offset_at(pairs, i);
+        let len = crate::length_at(pairs, i);
+        crate::put_pair(pairs, i + 1, offset, len);
     }
 }
 
 // One pair in place of those from index up to behind, of which there is at most one.
 fn write_pair(pairs: &mut [u32], index: usize, behind: usize, count: usize, k: u32, len: u32)
-    requires { ⌜ Spliceable (2 * index) (2 * behind) (2 * count) 2 (length (now pairs)) ⌝ }
-    requires { ⌜ index ≤ behind ⌝ }
-    requires { ⌜ behind ≤ index + 1 ⌝ }
-    ensures { λ _. ⌜ now (pairs .exit) ≡ spliced (2 * index) (2 * behind) (2 * count) (k ∷ len ∷ []) (now (pairs .entry)) ⌝ }
+    requires { ⌜ PairSpliceable index behind count (now pairs) ⌝ }
+    ensures { λ _. ⌜ PairSpliced index behind count k len (now (pairs .entry)) (now (pairs .exit)) ⌝ }
 {
     open_pair(pairs, index, behind, count);
-    let at = 2 * index;
-    pairs[at] = k;
-    pairs[at + 1] = len;
+    crate::put_pair(pairs, index, k, len);
 }
 
 // ---- the call
@@ -203,7 +197,7 @@ pub fn set(
     index: i64,
     new: &[u64],
 ) -> ring::Answer
-    ensures { λ r. ⌜ MapWritten (setRefusal slots count (now (pairs .entry)) (now (values .entry)) index (now (new .entry))) (setMap slots count (now (pairs .entry)) (now (values .entry)) index (now (new .entry))) (now (pairs .entry)) (now (pairs .exit)) (now (values .entry)) (now (values .exit)) r ⌝ }
+    ensures { λ r. ⌜ SetWritten slots count (now (pairs .entry)) (now (pairs .exit)) (now (values .entry)) (now (values .exit)) index (now (new .entry)) r ⌝ }
 {
     let code = crate::map_refusal(slots, count, pairs, values);
     if code != 0 {
@@ -215,11 +209,9 @@ pub fn set(
     }
     let k = ring::residue(index, slots as u32);
     let change = change_of(count, pairs, k, len);
-    if pairs.len() < 2 * change.pairs {
-        return ring::Answer::Refused(12);
-    }
-    if values.len() < change.values {
-        return ring::Answer::Refused(12);
+    let room = crate::room_refusal(change.pairs, change.values, pairs.len(), values.len());
+    if room != 0 {
+        return ring::Answer::Refused(room);
     }
     write_pair(pairs, change.index, change.behind, count, k, len as u32);
     splice(values, change.start, change.from, change.end, new);

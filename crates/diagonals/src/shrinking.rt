@@ -1,15 +1,15 @@
 // All diagonals at one period, the smallest that serves them all.
 ghost use mathlib.Core.Path.{_≡_};
-ghost use Prim.Native.Nat.{_*_, _≤_};
+ghost use Prim.Native.Nat.{_*_};
 ghost use lib.ListN.{length};
 ghost use Rattle.ring.specs.Divisors.{lcmOf};
 ghost use Rattle.ring.specs.Periods.{minPeriod};
 ghost use Rattle.ring.specs.Answers.{answered};
 ghost use Rattle.diagonals.specs.Maps.{view, WellFormed};
-ghost use Rattle.diagonals.specs.Shrinking.{commonPeriod, shrunk};
-ghost use Rattle.diagonals.specs.Calls.{mapRefusal, secondRefusal, MapWritten};
+ghost use Rattle.diagonals.specs.Shrinking.{commonPeriod};
+ghost use Rattle.diagonals.specs.Calls.{mapRefusal, ShrinkWritten};
 ghost use Rattle.ring.specs.Refusals.{Range};
-ghost use Rattle.diagonals.specs.Steps.{Common, Shrinking, Shrunk};
+ghost use Rattle.diagonals.specs.Steps.Writing.{Common, Shrinking, Shrunk};
 
 // The smallest period of a stored one, which `min_period` does not refuse.
 fn smallest(v: &[u64]) -> usize
@@ -43,8 +43,7 @@ fn common_period(slots: usize, count: usize, pairs: &[u32], values: &[u64]) -> u
     let mut start = 0;
     let mut i = 0;
     while i < count {
-        let at = 2 * i;
-        let end = start + ring::wide(pairs[at + 1]);
+        let end = start + ring::wide(crate::length_at(pairs, i));
         period = common(period, smallest(&values[start..end]));
         start = end;
         i += 1;
@@ -79,12 +78,12 @@ fn write_shrunk(
     let mut at = 0;
     let mut i = 0;
     while i < count {
-        let p = 2 * i;
-        let end = start + ring::wide(pairs[p + 1]);
+        let end = start + ring::wide(crate::length_at(pairs, i));
+        let offset = crate::offset_at(pairs, i);
         crate::append(
             &values[start..end],
             0,
-            pairs[p],
+            offset,
             period,
             i,
             at,
@@ -106,18 +105,16 @@ pub fn shrink_period(
     pairs_out: &mut [u32],
     values_out: &mut [u64],
 ) -> ring::Answer
-    ensures { λ r. ⌜ MapWritten (secondRefusal slots count (now (pairs .entry)) (now (values .entry)) (shrunk (view count (now (pairs .entry)) (now (values .entry)))) (now («pairs_out» .entry)) (now («values_out» .entry))) (shrunk (view count (now (pairs .entry)) (now (values .entry)))) (now («pairs_out» .entry)) (now («pairs_out» .exit)) (now («values_out» .entry)) (now («values_out» .exit)) r ⌝ }
+    ensures { λ r. ⌜ ShrinkWritten slots count (now (pairs .entry)) (now (values .entry)) (now («pairs_out» .entry)) (now («pairs_out» .exit)) (now («values_out» .entry)) (now («values_out» .exit)) r ⌝ }
 {
     let code = crate::map_refusal(slots, count, pairs, values);
     if code != 0 {
         return ring::Answer::Refused(code);
     }
     let period = common_period(slots, count, pairs, values);
-    if pairs_out.len() / 2 < count {
-        return ring::Answer::Refused(12);
-    }
-    if values_out.len() / period < count {
-        return ring::Answer::Refused(12);
+    let room = crate::room_refusal(count, count * period, pairs_out.len(), values_out.len());
+    if room != 0 {
+        return ring::Answer::Refused(room);
     }
     write_shrunk(slots, count, pairs, values, period, pairs_out, values_out);
     ring::Answer::Is(count)

@@ -1,13 +1,12 @@
 // The transposed matrix.
 ghost use mathlib.Core.Path.{_≡_};
 ghost use mathlib.Core.Bool.{true, _&&_};
-ghost use Prim.Native.Nat.{_*_, _≤_, _<_};
+ghost use Prim.Native.Nat.{_<_};
 ghost use lib.Dec.{eqb, ltb};
-ghost use lib.ListN.{length};
 ghost use Rattle.diagonals.specs.Maps.{offsetAt, view};
 ghost use Rattle.diagonals.specs.Transposing.{opposite, transposed};
-ghost use Rattle.diagonals.specs.Calls.{secondRefusal, MapWritten};
-ghost use Rattle.diagonals.specs.Steps.{Turning, Turned, Transposing, Rest, Words};
+ghost use Rattle.diagonals.specs.Calls.{TransposeWritten};
+ghost use Rattle.diagonals.specs.Steps.Writing.{Turning, Turned, Transposing, Rest, Words};
 
 // -k mod slots
 fn opposite_of(slots: usize, k: usize) -> usize
@@ -34,8 +33,7 @@ fn append_turned(
     requires { ⌜ Turning slots (now pairs) i (now part) n at (now «pairs_out») (now «values_out») ⌝ }
     ensures { λ _. ⌜ Turned slots (now (pairs .entry)) i (now (part .entry)) n at (now («pairs_out» .entry)) (now («pairs_out» .exit)) (now («values_out» .entry)) (now («values_out» .exit)) ⌝ }
 {
-    let p = 2 * i;
-    let k = opposite_of(slots, ring::wide(pairs[p]));
+    let k = opposite_of(slots, ring::wide(crate::offset_at(pairs, i)));
     let len = part.len();
     crate::append(part, k % len, k as u32, len, n, at, pairs_out, values_out);
 }
@@ -61,8 +59,7 @@ fn write_rest(
     let mut n = first;
     while n < count {
         i -= 1;
-        let p = 2 * i;
-        let start = end - ring::wide(pairs[p + 1]);
+        let start = end - ring::wide(crate::length_at(pairs, i));
         append_turned(
             slots,
             pairs,
@@ -81,13 +78,12 @@ fn write_rest(
 
 // Whether the first diagonal has offset 0, and so stays first.
 fn leads_with_zero(count: usize, pairs: &[u32]) -> bool
-    requires { ⌜ 2 * count ≤ length (now pairs) ⌝ }
     ensures { λ r. ⌜ r ≡ (ltb 0 count && eqb (offsetAt (now (pairs .entry)) 0) 0) ⌝ }
 {
     if count == 0 {
         return false;
     }
-    pairs[0] == 0
+    crate::offset_at(pairs, 0) == 0
 }
 
 // The map whose first diagonal has offset 0: that one first, then the others.
@@ -104,7 +100,7 @@ fn write_behind_zero(
     requires { ⌜ (ltb 0 count && eqb (offsetAt (now pairs) 0) 0) ≡ true ⌝ }
     ensures { λ _. ⌜ Words (transposed slots (view count (now (pairs .entry)) (now (values .entry)))) (now («pairs_out» .entry)) (now («pairs_out» .exit)) (now («values_out» .entry)) (now («values_out» .exit)) ⌝ }
 {
-    let len = ring::wide(pairs[1]);
+    let len = ring::wide(crate::length_at(pairs, 0));
     append_turned(
         slots,
         pairs,
@@ -167,7 +163,7 @@ pub fn transpose(
     pairs_out: &mut [u32],
     values_out: &mut [u64],
 ) -> ring::Answer
-    ensures { λ r. ⌜ MapWritten (secondRefusal slots count (now (pairs .entry)) (now (values .entry)) (transposed slots (view count (now (pairs .entry)) (now (values .entry)))) (now («pairs_out» .entry)) (now («values_out» .entry))) (transposed slots (view count (now (pairs .entry)) (now (values .entry)))) (now («pairs_out» .entry)) (now («pairs_out» .exit)) (now («values_out» .entry)) (now («values_out» .exit)) r ⌝ }
+    ensures { λ r. ⌜ TransposeWritten slots count (now (pairs .entry)) (now (values .entry)) (now («pairs_out» .entry)) (now («pairs_out» .exit)) (now («values_out» .entry)) (now («values_out» .exit)) r ⌝ }
 {
     let code = crate::map_refusal(slots, count, pairs, values);
     if code != 0 {
@@ -175,11 +171,9 @@ pub fn transpose(
     }
     let place = crate::place_of(count, pairs, 65536);
     let total = place.start;
-    if pairs_out.len() / 2 < count {
-        return ring::Answer::Refused(12);
-    }
-    if values_out.len() < total {
-        return ring::Answer::Refused(12);
+    let room = crate::room_refusal(count, total, pairs_out.len(), values_out.len());
+    if room != 0 {
+        return ring::Answer::Refused(room);
     }
     write_transposed(slots, count, pairs, values, total, pairs_out, values_out);
     ring::Answer::Is(count)

@@ -17,17 +17,16 @@ use mir.Syntax.{w64}
 use mir.Val.{Fits, ofZ, toZ}
 use mir.ValLaws.{toZ-ofZ}
 use borrow.Author.Needs.{sfits-of}
-use Rattle.ring.specs.Lists.{Each}
+use Rattle.ring.specs.Lists.{Each, some}
 use Rattle.ring.specs.Laws.Lists.{each-append}
 use Rattle.ring.specs.Refusals.{firstOf, Range}
 use Rattle.ring.specs.Laws.Refusals.{either, first-refused, first-later}
-use Rattle.linear_transformation.specs.Steps.{StepsInside, StepsJudged}
+use Rattle.linear_transformation.specs.Steps.Numbers.{StepsInside, StepsJudged}
 use Rattle.linear_transformation.specs.declared.rotations.BsgsRotations.{BsgsRotations}
 use Rattle.linear_transformation.specs.declared.rotations.BsgsRotations.the-variants.{PerRotation, PowersOfTwo}
-use Rattle.linear_transformation.specs.Plans.{some}
-use Rattle.linear_transformation.specs.Rotations.{stepRefusals, babyRefusals, babyStepOf, noBaby}
-use Rattle.linear_transformation.specs.Laws.Members.{some-append, left, right}
-use Rattle.linear_transformation.specs.BabySteps.{BabiesJudged, Small}
+use Rattle.linear_transformation.specs.Listed.{stepRefusals, babyRefusals, babyStepOf, noBaby}
+use Rattle.ring.specs.Laws.Members.{some-append, left, right}
+use Rattle.linear_transformation.specs.Steps.Babies.{BabiesJudged, Small}
 
 -- ---- the numbers
 

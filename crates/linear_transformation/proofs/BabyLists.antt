@@ -18,7 +18,7 @@ use lib.Dec.{eqb, ltb}
 use lib.IntN.{ℤ, pos, negsuc, natAbs}
 use lib.ListN.{length, getD, set, take, drop, length-set, length-append, length-map, take-append-drop, List·getD-map}
 use lib.Seq.{take-suc, take-all, split-at, length-take-le}
-use Rattle.ring.specs.Lists.{join, Each}
+use Rattle.ring.specs.Lists.{join, Each, among}
 use Rattle.ring.specs.Vectors.{inFront}
 use Rattle.ring.specs.Searches.{below, only}
 use Rattle.ring.specs.Marks.{marks}
@@ -31,11 +31,10 @@ use Rattle.ring.specs.Laws.Below.{below-ext}
 use Rattle.ring.specs.Laws.Refusals.{first-refused, first-later}
 use Rattle.linear_transformation.specs.declared.rotations.BsgsRotations.{BsgsRotations}
 use Rattle.linear_transformation.specs.declared.rotations.BsgsRotations.the-variants.{PerRotation, PowersOfTwo}
-use Rattle.linear_transformation.specs.Plans.{among}
 use Rattle.linear_transformation.specs.Closures.{closure, passRotations, nonzeros}
-use Rattle.linear_transformation.specs.Rotations.{noBaby, babyMultiple, multiplesOf, babyRefusals, closureOf, babyStepOf}
+use Rattle.linear_transformation.specs.Listed.{noBaby, babyMultiple, multiplesOf, babyRefusals, closureOf, babyStepOf}
 use Rattle.linear_transformation.specs.Calls.{ListWritten}
-use Rattle.linear_transformation.specs.BabySteps.{Babies, BabiesJudged, Marked, Enclosed, Reached, topsOf}
+use Rattle.linear_transformation.specs.Steps.Babies.{Babies, BabiesJudged, Marked, Enclosed, Reached, topsOf}
 use Rattle.linear_transformation.specs.Laws.Passes.{rotations-are}
 use Rattle.linear_transformation.specs.Laws.Tables.{bounded-below}
 use Rattle.linear_transformation.proofs.BabyChecks.{baby-numbered}
@@ -179,7 +178,7 @@ reached-powers {babyStep} e = record { bounded = e .bounded; is = ap (map (λ k.
 
 -- ---- the loops over babies
 
--- a word of i64 is 0 where the number is
+-- an i64 whose word is 0 is 0
 word-zero : (z : ℤ) → mag z < 2 ^ 63 → ofZ w64 z ≡ 0 → natAbs z ≡ 0
 word-zero z g e = ap natAbs (sym (toZ-ofZ w64 z (sfits-of g)) ∙ ap (toZ w64) e)
 

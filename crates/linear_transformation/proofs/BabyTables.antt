@@ -16,7 +16,8 @@ use lib.IntN.{ℤ, pos, negsuc, natAbs}
 use lib.Signed.{ltZ}
 use lib.ListN.{length, getD, set, take, length-set, length-map, List·getD-map}
 use lib.Seq.{getD-set-same, getD-set-other, take-suc, take-all}
-use Rattle.ring.specs.Lists.{Each}
+use Rattle.ring.proofs.Counting.{Counting, counting-none, counting-low, counting-yes, counting-no, counting-done}
+use Rattle.ring.specs.Lists.{Each, among}
 use Rattle.ring.specs.Vectors.{inFront}
 use Rattle.ring.specs.Searches.{below}
 use Rattle.ring.specs.Marks.{marks, Unmarked}
@@ -27,15 +28,14 @@ use Rattle.ring.specs.Laws.Searches.{lt-or-ge, by-false}
 use Rattle.ring.specs.Laws.Below.{below-yes, below-no, length-below-yes, below-le, below-before}
 use Rattle.ring.specs.Laws.Refusals.{either}
 use Rattle.ring.specs.Refusals.{Range}
-use Rattle.linear_transformation.specs.Plans.{among}
-use Rattle.linear_transformation.specs.Closures.{topBit, cleared, targets, passRotations}
-use Rattle.linear_transformation.specs.Rotations.{noBaby, babyMultiple, multiplesOf}
-use Rattle.linear_transformation.specs.PlanSteps.{Writing}
+use Rattle.linear_transformation.specs.Closures.{topBit, cleared, targets, passRotations, nonEmpty}
+use Rattle.linear_transformation.specs.Listed.{noBaby, babyMultiple, multiplesOf}
+use Rattle.linear_transformation.specs.Steps.Plans.{Writing}
 use Rattle.linear_transformation.proofs.Writings.{writing-front}
-use Rattle.linear_transformation.specs.BabySteps.{Babies, Small, Bounded, Folded, Clears, Closes, Above, Marked, Enclosed, HasTop, topsOf}
-use Rattle.linear_transformation.specs.Laws.Members.{some-append, among-head, among-below, below-among}
+use Rattle.linear_transformation.specs.Steps.Babies.{Babies, Small, Bounded, Folded, Clears, Closes, Above, Marked, Enclosed, HasTop, topsOf}
+use Rattle.ring.specs.Laws.Members.{some-append, among-head, among-below, below-among}
 use Rattle.linear_transformation.specs.Laws.Closures.{top-unique, top-low, top-high, positive}
-use Rattle.linear_transformation.specs.Laws.Passes.{target-is, is-target, nonEmpty, rotations-are}
+use Rattle.linear_transformation.specs.Laws.Passes.{target-is, is-target, rotations-are}
 use Rattle.linear_transformation.specs.Laws.Tables.{closes-below}
 
 -- ---- one baby
@@ -50,7 +50,7 @@ passes-tests z step h =
 pub small-of : (z : ℤ) (step : ℕ) → noBaby z step ≡ false → Small z
 small-of z step h = passes-tests z step h .0
 
--- a baby is its multiple of the step
+-- a baby is its multiple times the step
 pub times : (z : ℤ) (step : ℕ) → noBaby z step ≡ false → babyMultiple z step * step ≡ natAbs z
 times z step h =
     let d : natAbs z % step ≡ 0 = eqb-true _ 0 (passes-tests z step h .1) in
@@ -118,7 +118,7 @@ module _ (seen : List Bool) (o : ℕ) (l : o < length seen) where
       by (yes e) = inr e
       by (no n) = inl (sym (getD-set-other seen o k true false n) ∙ h)
 
--- a table is marked below n where it says yes
+-- what is marked is below the bound
 bounded-yes : {seen : List Bool} {n : ℕ} → Bounded seen n → (k : ℕ) → marks seen k ≡ true → k < n
 bounded-yes {n} b k h = ⊎-elim (λ l. l) (λ l. absurd (true≢false (sym h ∙ b .above k l))) (lt-or-ge k n)
 
@@ -258,7 +258,7 @@ halves : (p i : ℕ) → p ≡ 2 ^ i → 1 < p → (j : ℕ) × ((p / 2 ≡ 2 ^ 
 halves p zero e l = absurd (omega arith)
 halves p (suc j) e l = (j, (omega arith, omega arith))
 
--- a number of 2^j..2^(j+1) is cleared of 2^j
+-- clearing the top bit of a number of at least 2^j and below 2^(j+1) takes 2^j away
 clears-at : (k j p : ℕ) → p ≡ 2 ^ j → p ≤ k → k < 2 * p → cleared k ≡ k - p
 unfolding cleared
 clears-at k j p e l h = let t : topBit k ≡ j = top-unique k j (omega arith) (omega arith) in rw (t, e)
@@ -307,28 +307,7 @@ closing-done s h = record { bounded = s .bounded; grows = s .grows; clears = λ 
 pub word : {k step : ℕ} → k < 65536 → Range step → k * step < 2 ^ 32
 word {k} {step} l r = let a : k ≤ 65535 = omega arith in omega (arith, mul-le-mul a (r .high))
 
--- ---- numbers that pass a test, counted and listed
-
-pub record Counting (q : ℕ → Bool) (n count k : ℕ) : Type 0 where
-  pub count-is : count ≡ length (below q k)
-  pub room : k ≤ n
-
-pub counting-none : (q : ℕ → Bool) (n : ℕ) → Counting q n 0 0
-unfolding below
-counting-none q n = record { count-is = refl; room = omega arith }
-
-module _ {q : ℕ → Bool} {n count k : ℕ} (s : Counting q n count k) where
-  pub counting-low : count ≤ k
-  counting-low = omega (arith, s .count-is, below-le q k)
-
-  pub counting-yes : k < n → q k ≡ true → Counting q n (count + 1) (k + 1)
-  counting-yes l e = record { count-is = rw (s .count-is) (sym (length-below-yes q k e)); room = omega arith }
-
-  pub counting-no : k < n → q k ≡ false → Counting q n count (k + 1)
-  counting-no l e = record { count-is = s .count-is ∙ sym (ap length (below-no q k e)); room = omega arith }
-
-  pub counting-done : n ≤ k → count ≡ length (below q n)
-  counting-done h = let e : k ≡ n = omega (arith, s .room) in rw (← e) (s .count-is)
+-- ---- numbers that pass a test, listed
 
 -- f of the numbers below k that pass stands in front
 pub record Listing (q : ℕ → Bool) (f : ℕ → ℕ) (n : ℕ) (out₀ out : List ℕ) (at k : ℕ) : Type 0 where

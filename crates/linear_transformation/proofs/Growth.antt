@@ -11,7 +11,7 @@ use lib.Dec.{ltb}
 use lib.IntN.{ℤ}
 use lib.ListN.{length, length-map}
 use Rattle.ring.specs.Lists.{join}
-use Rattle.ring.specs.Vectors.{inFront}
+use Rattle.ring.specs.Vectors.{inFront, Behind}
 use Rattle.ring.specs.Answers.{answered}
 use Rattle.ring.specs.declared.Answer.the-variants as Got
 use Rattle.ring.specs.Refusals.{firstOf}
@@ -21,10 +21,10 @@ use Rattle.linear_transformation.specs.declared.rotations.BsgsRotations.
 use Rattle.linear_transformation.specs.declared.rotations.TreeAnswer.the-variants as Grown
 use Rattle.linear_transformation.specs.declared.digits.Digit.{Digit}
 use Rattle.linear_transformation.specs.Digits.{rotOf, digit, bitsOf, leaf}
-use Rattle.linear_transformation.specs.Trees.{digitsOf, leavesOf, Level, levelsOf, Tree, treeOf, levelWords, pairWords, treeKeys, treeSwitches}
-use Rattle.linear_transformation.specs.Rotations.{giantRefusals, listTree}
+use Rattle.linear_transformation.specs.Trees.{digitsOf, leavesOf, Level, levelsOf, Tree, treeOf, levelWords, recordWords, treeKeys, treeSwitches}
+use Rattle.linear_transformation.specs.Listed.{giantRefusals, listTree}
 use Rattle.linear_transformation.specs.Calls.{ListWritten, treeRoom, TreeLeft, NoneLeft, TreeWritten}
-use Rattle.linear_transformation.specs.TreeSteps.{GiantsJudged, leavesAt, Planted, heapLevels, heapSwitches, keysOf, Behind}
+use Rattle.linear_transformation.specs.Steps.Trees.{GiantsJudged, leavesAt, Planted, heapLevels, heapSwitches, keysOf}
 use Rattle.linear_transformation.proofs.Writing.{words-length, switches-words, allWords}
 use Rattle.linear_transformation.proofs.Planting.{levels-are, switches-are, pair-words}
 
@@ -46,8 +46,8 @@ pub record Sizes (slots step : ℕ) (gs : List ℤ) (heap : List Bool) (r count 
   pub levels-are : heapLevels slots step r heap r ≡ listTree slots step gs .levels
   pub leaves : length (listTree slots step gs .leaves) ≡ length gs
   pub levels : length (levelWords (listTree slots step gs .levels)) ≡ 2 * r
-  pub pairs-are : allWords r heap r ≡ pairWords (listTree slots step gs .levels)
-  pub pairs : length (pairWords (listTree slots step gs .levels)) ≡ 2 * count
+  pub pairs-are : allWords r heap r ≡ recordWords (listTree slots step gs .levels)
+  pub pairs : length (recordWords (listTree slots step gs .levels)) ≡ 2 * count
 
 module _ {slots step : ℕ} {gs : List ℤ} {heap : List Bool} {r : ℕ} (p : Planted slots step gs heap r) where
   abbrev ds : List Digit
@@ -75,7 +75,7 @@ module _ {slots step : ℕ} {gs : List ℤ} {heap : List Bool} {r : ℕ} (p : Pl
 
   pub sizes : {count : ℕ} → count ≡ heapSwitches r heap r → Sizes slots step gs heap r count
   sizes {count} e =
-      let w : allWords r heap r ≡ pairWords (listTree slots step gs .levels) = pair-words slots step r heap r ∙ ap pairWords tree-levels in
+      let w : allWords r heap r ≡ recordWords (listTree slots step gs .levels) = pair-words slots step r heap r ∙ ap recordWords tree-levels in
       record {
         bits = tree-bits;
         switches = e ∙ tree-switches;
@@ -143,7 +143,7 @@ module _ {b g n : ℕ} {gs : List ℤ} {r : ℕ} (j : GiantsJudged b g n gs r) {
     pub keys-written : {new : List ℕ} {x : ℕ} → count ≤ length old → Behind 0 (keysOf (heapLevels n g bits heap bits)) old new x → ListWritten (giantRefusals (PowersOfTwo b g n) gs) (treeKeys (listTree n g gs)) old new (Got.Is count)
     keys-written l w =
         let q : firstOf (giantRefusals (PowersOfTwo b g n) gs ++ ((ltb (length old) (length (treeKeys (listTree n g gs))), 12) ∷ [])) ≡ 0 = refused-later j ((ltb (length old) (length (treeKeys (listTree n g gs))), 12) ∷ []) e ∙ rw (keys-are p k, le-ltb _ _ l) in
-        record { answer = rw (q, keys-are p k) refl; words = rw q (w .written ∙ ap (λ (t : List ℕ). inFront t old) (tree-keys p)) }
+        record { answer = rw (q, keys-are p k) refl; words = rw q (w .is ∙ ap (λ (t : List ℕ). inFront t old) (tree-keys p)) }
 
 -- ---- switches
 

@@ -19,7 +19,7 @@ use Rattle.ring.specs.Laws.Lists.{join-append}
 use Rattle.ring.specs.Laws.Below.{below-no, below-le, length-below-yes}
 use Rattle.ring.specs.Laws.Vectors.{tabulate-more}
 use Rattle.linear_transformation.specs.Laws.Trees.{level-places}
-use Rattle.linear_transformation.specs.TreeSteps.{Climbing, Climbed, oddAt, pairAt, heapPairs, levelPairs, heapSwitches}
+use Rattle.linear_transformation.specs.Steps.Trees.{Climbing, Climbed, oddAt, pairAt, heapPairs, levelPairs, heapSwitches}
 
 -- ---- powers
 

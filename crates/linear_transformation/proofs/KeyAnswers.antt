@@ -12,7 +12,7 @@ use lib.ListN.{length, set, take, drop, length-map, length-append}
 use lib.Pow.{pow-mono}
 use lib.Seq.{take-at, getD-set-same, getD-set-other}
 use Rattle.ring.specs.Lists.{Each}
-use Rattle.ring.specs.Vectors.{inFront}
+use Rattle.ring.specs.Vectors.{inFront, Behind}
 use Rattle.ring.specs.Searches.{below}
 use Rattle.ring.specs.Marks.{marks}
 use Rattle.ring.specs.Refusals.{firstOf, outside, Range}
@@ -27,20 +27,21 @@ use Rattle.linear_transformation.specs.declared.LinearTransformationStra
 use Rattle.linear_transformation.specs.declared.LinearTransformationStrategy.the-variants.{Bsgs, BsgsPowersOfTwo, Direct}
 use Rattle.linear_transformation.specs.declared.digits.Rot.{Rot}
 use Rattle.linear_transformation.specs.Strategies.{widthOutside}
-use Rattle.linear_transformation.specs.Plans.{widthOf, diagonalsOf, babies, giants}
-use Rattle.linear_transformation.specs.Closures.{closure, targets, passRotations, nonzeros}
+use Rattle.linear_transformation.specs.Plans.{widthOf, babies, giants}
+use Rattle.ring.specs.Residues.{diagonalsOf}
+use Rattle.linear_transformation.specs.Closures.{closure, targets, passRotations, nonzeros, nonEmpty}
 use Rattle.linear_transformation.specs.Digits.{rotOf}
 use Rattle.linear_transformation.specs.Trees.{Pair, Level, keyed, treeOf, treeKeys, treeSwitches}
-use Rattle.linear_transformation.specs.Rotations.{listTree}
+use Rattle.linear_transformation.specs.Listed.{listTree}
 use Rattle.linear_transformation.specs.Schedules.{babyStep, babyMultiples, planBabies, planTree, keysPerRotation, planKeys, giantSwitches, planSwitches}
 use Rattle.linear_transformation.specs.Calls.{ListWritten, planRefusals}
-use Rattle.linear_transformation.specs.BabySteps.{topsOf}
-use Rattle.linear_transformation.specs.PlanSteps.{Sorted, Writing}
-use Rattle.linear_transformation.specs.TreeSteps.{Planted, heapLevel, heapLevels, heapSwitches, keysOf, Behind}
-use Rattle.linear_transformation.specs.KeySteps.{PlanJudged, Sizable, Accepted, BabyTable, ClosureTable, giantsOf, Switches, BabySwitches}
+use Rattle.linear_transformation.specs.Steps.Babies.{topsOf}
+use Rattle.linear_transformation.specs.Steps.Plans.{Sorted, Writing}
+use Rattle.linear_transformation.specs.Steps.Trees.{Planted, heapLevel, heapLevels, heapSwitches, keysOf}
+use Rattle.linear_transformation.specs.Steps.Keys.{PlanJudged, Sizable, Accepted, BabyTable, ClosureTable, giantsOf, Switches, BabySwitches}
 use Rattle.linear_transformation.specs.Laws.Plans.{planned, width-positive, giants-below}
 use Rattle.linear_transformation.specs.Laws.Runs.{giants-bound, giants-few}
-use Rattle.linear_transformation.specs.Laws.Passes.{nonEmpty, rotations-are}
+use Rattle.linear_transformation.specs.Laws.Passes.{rotations-are}
 use Rattle.linear_transformation.specs.Laws.Turns.{nonzeros-below, nonzeros-times}
 use Rattle.linear_transformation.proofs.Writings.{writing-then, writing-done}
 use Rattle.linear_transformation.proofs.BabyLists.{list-later-by, list-refused-by, list-short, list-written}
@@ -243,7 +244,7 @@ module _ {slots width : ℕ} {ds : List ℕ} (z : Sizable slots width ds) {seen 
         module _ {new : List ℕ} {to : ℕ} (v : Behind passes steps mid new to) where
           new-is : new ≡ inFront (turns ++ steps) old
           new-is =
-              v .written
+              v .is
               ∙ rw (front-kept, u) (inFront-inFront (turns ++ steps) turns old (omega (arith, length-append turns steps)) (omega (arith, turns-length)))
 
           pub power-written : ListWritten [] (planKeys slots (BsgsPowersOfTwo width) ds) old new (Is (passes + levels))

@@ -21,14 +21,14 @@ use Rattle.linear_transformation.specs.Strategies.{widthOutside}
 use Rattle.linear_transformation.specs.declared.LinearTransformationStrategy.{LinearTransformationStrategy}
 use Rattle.linear_transformation.specs.declared.LinearTransformationStrategy.the-variants.{Bsgs, BsgsPowersOfTwo, Direct}
 use Rattle.linear_transformation.specs.Closures.{closure, nonzeros}
-use Rattle.linear_transformation.specs.BabySteps.{Bounded, Closes}
+use Rattle.linear_transformation.specs.Steps.Babies.{Bounded, Closes}
 use Rattle.linear_transformation.specs.declared.plan.PlanAnswer.{PlanAnswer}
 use Rattle.linear_transformation.specs.declared.digits.Digit.{Digit}
-use Rattle.linear_transformation.specs.Plans.{widthOf, babies, giants}
-use Rattle.linear_transformation.specs.PlanSteps.{Writing, Diagonals, multiples, BabiesMarked, StepIs, MultiplesEnd, WordsWritten, RunEnd, RunFrom}
-use Rattle.linear_transformation.specs.TreeSteps.{Stepped, OneGiant, DigitIs, LargestIs, LeafAsked, LeafIs, leavesAt, Blank, LeavesMarked}
-use Rattle.linear_transformation.specs.KeySteps.{Sizable, Accepted, BabyTable, ClosureTable, giantsOf}
-use Rattle.linear_transformation.specs.Laws.Plans.{Planned, giant-le, giant-times}
+use Rattle.linear_transformation.specs.Plans.{widthOf, babies, giants, Planned}
+use Rattle.linear_transformation.specs.Steps.Plans.{Writing, Diagonals, multiples, BabiesMarked, StepIs, MultiplesEnd, WordsWritten, RunEnd, RunFrom}
+use Rattle.linear_transformation.specs.Steps.Trees.{Stepped, OneGiant, DigitIs, LargestIs, LeafAsked, LeafIs, leavesAt, Blank, LeavesMarked}
+use Rattle.linear_transformation.specs.Steps.Keys.{Sizable, Accepted, BabyTable, ClosureTable, giantsOf}
+use Rattle.linear_transformation.specs.Laws.Plans.{giant-le, giant-times}
 use Rattle.linear_transformation.specs.Laws.Runs.{planned-bound, giants-none, Walked, walked-none, walked-more, walked-giants}
 use Rattle.linear_transformation.proofs.PlanAnswers.{babiesOf, words-at, is-diagonals, own-babies, step-is, closed-below, closed-babies, closable, closed-marks, in-range, planned-at}
 use Rattle.linear_transformation.proofs.Signs.{natural-is}

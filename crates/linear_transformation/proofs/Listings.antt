@@ -18,7 +18,7 @@ use lib.Seq.{getD-set-same, getD-set-other, take-all}
 use mir.Syntax.{w32, w64}
 use mir.Val.{Fits, SFits, ofZ, toZ}
 use mir.ValLaws.{toZ-ofZ}
-use Rattle.ring.specs.Lists.{Each}
+use Rattle.ring.specs.Lists.{Each, some, among}
 use Rattle.ring.specs.Marks.{marks}
 use Rattle.ring.specs.Vectors.{tabulate, inFront, Filling}
 use Rattle.ring.specs.Laws.Vectors.{filling-none, filling-more, filled-front, map-tabulate, tabulate-getD}
@@ -31,12 +31,10 @@ use Rattle.ring.specs.Laws.Refusals.{inside, first-refused, first-later}
 use Rattle.ring.specs.Laws.Residues.{residue-lt}
 use Rattle.linear_transformation.specs.declared.digits.Digit.{Digit}
 use Rattle.linear_transformation.specs.declared.rotations.BsgsRotations.the-variants.{PowersOfTwo}
-use Rattle.linear_transformation.specs.Plans.{some, among}
-use Rattle.linear_transformation.specs.Digits.{rotOf, digit, largest, bitsOf, leaf}
-use Rattle.linear_transformation.specs.Rotations.{stepRefusals, giantRefusals}
-use Rattle.linear_transformation.specs.Steps.{Digitable, StepsJudged}
-use Rattle.linear_transformation.specs.TreeSteps.{Stepped, Listed, Listing, AreMultiples, GiantsJudged, OneGiant, digitAt, DigitIs, LargestIs, BitsAre, LeafIs, LeafAsked, LeavesAsked, leavesAt, Blank, LeavesMarked}
-use Rattle.linear_transformation.specs.Laws.Digits.{Giant}
+use Rattle.linear_transformation.specs.Digits.{rotOf, digit, largest, bitsOf, leaf, Giant}
+use Rattle.linear_transformation.specs.Listed.{stepRefusals, giantRefusals}
+use Rattle.linear_transformation.specs.Steps.Numbers.{Digitable, StepsJudged}
+use Rattle.linear_transformation.specs.Steps.Trees.{Stepped, Listed, Listing, AreMultiples, GiantsJudged, OneGiant, digitAt, DigitIs, LargestIs, BitsAre, LeafIs, LeafAsked, LeavesAsked, leavesAt, Blank, LeavesMarked}
 use Rattle.linear_transformation.specs.Laws.Bits.{digit-small, bits-positive, bits-least, bits-small, small-all}
 
 -- a giant that is read and handed on

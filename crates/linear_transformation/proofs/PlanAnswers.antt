@@ -11,7 +11,7 @@ use lib.Dec.{ltb}
 use lib.ListN.{length, take, drop, length-map, length-append}
 use lib.IntN.{ℤ}
 use lib.Seq.{take-at}
-use Rattle.ring.specs.Lists.{Each}
+use Rattle.ring.specs.Lists.{Each, among}
 use Rattle.ring.specs.Vectors.{inFront}
 use Rattle.ring.specs.Searches.{below}
 use Rattle.ring.specs.Refusals.{firstOf, outside, Range}
@@ -20,7 +20,8 @@ use Rattle.ring.specs.Laws.Lists.{each-then, each-both, each-map}
 use Rattle.ring.specs.Laws.Searches.{by-false}
 use Rattle.ring.specs.Laws.Refusals.{inside, first-refused, first-later}
 use Rattle.ring.specs.Laws.Below.{below-le, below-ext}
-use Rattle.linear_transformation.specs.Plans.{among, diagonalsOf, widthOf, babies, giants, planPairs, planIndex, wordsWith}
+use Rattle.linear_transformation.specs.Plans.{widthOf, babies, giants, planPairs, planIndex, wordsWith, Planned}
+use Rattle.ring.specs.Residues.{diagonalsOf}
 use Rattle.linear_transformation.specs.declared.plan.PlanAnswer.{PlanAnswer}
 use Rattle.linear_transformation.specs.declared.plan.PlanAnswer.the-variants.{Refused, Is}
 use Rattle.linear_transformation.specs.declared.LinearTransformationStrategy.{LinearTransformationStrategy}
@@ -28,11 +29,11 @@ use Rattle.linear_transformation.specs.declared.LinearTransformationStra
 use Rattle.linear_transformation.specs.Schedules.{babyStep, babyMultiples, planBabies, planWords}
 use Rattle.linear_transformation.specs.Closures.{closure, babyClosure}
 use Rattle.linear_transformation.specs.Calls.{planRefusals, planRefusal, PlanWritten}
-use Rattle.linear_transformation.specs.KeySteps.{PlanJudged}
-use Rattle.linear_transformation.specs.BabySteps.{Bounded, Closes}
-use Rattle.linear_transformation.specs.PlanSteps.{Sorted, Writing, Diagonals, multiples, BabiesMarked, StepIs, MultiplesEnd, WordsWritten}
-use Rattle.linear_transformation.specs.Laws.Members.{each-among, rising-below}
-use Rattle.linear_transformation.specs.Laws.Plans.{Planned, words-length, babies-rise, babies-below, babies-narrow}
+use Rattle.linear_transformation.specs.Steps.Keys.{PlanJudged}
+use Rattle.linear_transformation.specs.Steps.Babies.{Bounded, Closes}
+use Rattle.linear_transformation.specs.Steps.Plans.{Sorted, Writing, Diagonals, multiples, BabiesMarked, StepIs, MultiplesEnd, WordsWritten}
+use Rattle.ring.specs.Laws.Members.{each-among, rising-below}
+use Rattle.linear_transformation.specs.Laws.Plans.{words-length, babies-rise, babies-below, babies-narrow}
 use Rattle.linear_transformation.specs.Laws.Closures.{cleared-lower, positive, closure-least, closure-rising}
 use Rattle.linear_transformation.specs.Laws.Tables.{closes-closure}
 use Rattle.linear_transformation.specs.Laws.Runs.{planned-length, planned-bound, giants-bound, babies-bound, words-bound, pairsAsWords, pairs-words-length, giants-few}
@@ -125,7 +126,7 @@ module _ {slots width : ℕ} {ds : List ℕ} (a : Range slots) (w : Range width)
       pub marked-multiples : (k : ℕ) → marks seen k ≡ among k (multiples slots width step ds)
       marked-multiples k = b .are k ∙ ap (λ (bs : List ℕ). among k (map (λ b. b / step) bs)) (babies-bound p 65536 (a .high) (a .low))
 
-      -- no mark is left out
+      -- no number from n on is marked
       pub marks-end : (k : ℕ) → n ≤ k → marks seen k ≡ false
       marks-end k l = by-false (λ e. let h : k < n = each-among (λ k. k < n) (multiples slots width step ds) multiples-low k (sym (marked-multiples k) ∙ e) in omega arith)
 

@@ -16,9 +16,10 @@ use Rattle.ring.specs.Searches.{below, orElse}
 use Rattle.ring.specs.Divisors.{gcdOf, gcdAll}
 use Rattle.ring.specs.Marks.{marks, Unmarked}
 use Rattle.ring.specs.Laws.Lists.{each-at, join-append}
-use Rattle.linear_transformation.specs.Plans.{some, babyOf, giantOf, babies, giants, planPairs, planIndex}
-use Rattle.linear_transformation.specs.PlanSteps.{Writing, Diagonals, BabiesMarked, StepIs, RunEnd, RunFrom}
-use Rattle.linear_transformation.specs.Laws.Members.{some-append}
+use Rattle.linear_transformation.specs.Plans.{babyOf, giantOf, babies, giants, planPairs, planIndex}
+use Rattle.ring.specs.Lists.{some}
+use Rattle.linear_transformation.specs.Steps.Plans.{Writing, Diagonals, BabiesMarked, StepIs, RunEnd, RunFrom}
+use Rattle.ring.specs.Laws.Members.{some-append}
 use Rattle.linear_transformation.specs.Laws.Plans.{index-babies, giant-baby, giant-le, baby-lt, giant-times}
 use Rattle.linear_transformation.specs.Laws.Closures.{positive}
 use Rattle.linear_transformation.specs.Laws.Runs.{planned-length, pairsAsWords, giants-none, pairs-none, pairs-words-length, multiples-are, Walked, walked-none, walked-more, walked-giants, walked-pairs, giants-part, giants-few}
@@ -27,7 +28,7 @@ use Rattle.linear_transformation.proofs.Writings.{writing-none, writing
 
 -- ---- the index
 
--- a multiple of the width at most k, and less than the width below it, is k's giant
+-- a multiple of the width that is at most k, and less than a width below it, is k's giant
 pub giant-near : (base k width : ℕ) → base % width ≡ 0 → base ≤ k → k - base < width → base ≡ giantOf width k
 unfolding giantOf babyOf
 giant-near base k width z l n =

@@ -16,8 +16,8 @@ use Rattle.ring.specs.Vectors.{tabulate}
 use Rattle.ring.specs.Laws.Lists.{join-map}
 use Rattle.ring.specs.Laws.Vectors.{tabulate-cong, map-tabulate}
 use Rattle.linear_transformation.specs.Digits.{rotOf, digit, bitsOf, leaf, levelRotation}
-use Rattle.linear_transformation.specs.Trees.{digitsOf, leavesOf, there, Pair, Level, pairsAt, levelsOf, flag, pairWords}
-use Rattle.linear_transformation.specs.TreeSteps.{LargestIs, BitsAre, leavesAt, Blank, LeavesMarked, Climbed, Climbing, Heaped, Planted, oddAt, pairAt, heapPairs, levelPairs, heapLevel, heapLevels, heapSwitches, wordsOf}
+use Rattle.linear_transformation.specs.Trees.{digitsOf, leavesOf, there, Pair, Level, pairsAt, levelsOf, flag, recordWords}
+use Rattle.linear_transformation.specs.Steps.Trees.{LargestIs, BitsAre, leavesAt, Blank, LeavesMarked, Climbed, Climbing, Heaped, Planted, oddAt, pairAt, heapPairs, levelPairs, heapLevel, heapLevels, heapSwitches, wordsOf}
 use Rattle.linear_transformation.proofs.Writings.{no-marks}
 use Rattle.linear_transformation.specs.Laws.Trees.{there-zero, there-half, level-places, odds, odds-more, withEven, pairs-odds}
 
@@ -93,6 +93,6 @@ module _ (slots step b : ℕ) (heap : List Bool) (n : ℕ) where
   unfolding heapSwitches heapLevels
   switches-are = sym (ap (λ (ls : List Level). length (join (λ l. l .pairs) ls)) (sym (map-tabulate (heapLevel slots step b heap) n (λ i. i))) ∙ ap length (join-map (heapLevel slots step b heap) (λ l. l .pairs) (tabulate n (λ i. i))))
 
-  pub pair-words : join (λ i. wordsOf (levelPairs heap b i)) (tabulate n (λ i. i)) ≡ pairWords (heapLevels slots step b heap n)
+  pub pair-words : join (λ i. wordsOf (levelPairs heap b i)) (tabulate n (λ i. i)) ≡ recordWords (heapLevels slots step b heap n)
   unfolding heapLevels
-  pair-words = sym (ap pairWords (sym (map-tabulate (heapLevel slots step b heap) n (λ i. i))) ∙ join-map (heapLevel slots step b heap) (λ l. join (λ p. p .odd ∷ flag (p .even-there) ∷ []) (l .pairs)) (tabulate n (λ i. i)))
+  pair-words = sym (ap recordWords (sym (map-tabulate (heapLevel slots step b heap) n (λ i. i))) ∙ join-map (heapLevel slots step b heap) (λ l. join (λ p. p .odd ∷ flag (p .even-there) ∷ []) (l .pairs)) (tabulate n (λ i. i)))

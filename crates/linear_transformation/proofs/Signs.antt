@@ -12,7 +12,7 @@ use mir.Syntax.{w64}
 use mir.Val.{SFits, ofZ, toZ}
 use mir.ValLaws.{toZ-ofZ}
 use Rattle.linear_transformation.specs.Digits.{levelDigit}
-use Rattle.linear_transformation.specs.TreeSteps.{LevelDigit}
+use Rattle.linear_transformation.specs.Steps.Trees.{LevelDigit}
 use Rattle.linear_transformation.specs.Laws.Digits.{minus}
 
 pub small-fits : (z : ℤ) → mag z ≤ 65536 → SFits w64 z

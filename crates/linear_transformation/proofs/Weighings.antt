@@ -15,19 +15,20 @@ use lib.IntN.{ℤ}
 use lib.ListN.{length, getD, set, take, drop, replicate, length-set, length-append, length-replicate}
 use lib.Seq.{take-suc, take-all, take-append-seam, length-take-le, getD-set-same, getD-set-other}
 use Rattle.ring.specs.Vectors.{inFront}
-use Rattle.ring.specs.Lists.{Each, Rising}
+use Rattle.ring.specs.Lists.{Each, Rising, some, among}
 use Rattle.ring.specs.Searches.{only, below}
 use Rattle.ring.specs.Laws.Lists.{each-then, each-at, each-append}
 use Rattle.ring.specs.Laws.Searches.{lt-or-ge}
 use Rattle.ring.specs.Laws.Below.{below-le, below-ext}
-use Rattle.linear_transformation.specs.Plans.{some, among, diagonalsOf, babyOf, giantOf, giants}
+use Rattle.linear_transformation.specs.Plans.{babyOf, giantOf, giants, Planned, Distinct}
+use Rattle.ring.specs.Residues.{diagonalsOf}
 use Rattle.linear_transformation.specs.Widths.{gaps, smallestGap, ownBabies, cost, candidate, bestWidth}
-use Rattle.linear_transformation.specs.PlanSteps.{Sorted, Diagonals}
-use Rattle.linear_transformation.specs.WidthSteps.{Choice, Fresh, Weighed}
-use Rattle.linear_transformation.specs.Laws.Members.{some-append, left, right, one-of, among-head, each-among}
-use Rattle.linear_transformation.specs.Laws.Plans.{Planned, planned, giant-baby, giant-le, baby-lt, giant-climbs}
+use Rattle.linear_transformation.specs.Steps.Plans.{Sorted, Diagonals}
+use Rattle.linear_transformation.specs.Steps.Widths.{Choice, Fresh, Weighed, Narrowest}
+use Rattle.ring.specs.Laws.Members.{some-append, left, right, one-of, among-head, each-among}
+use Rattle.linear_transformation.specs.Laws.Plans.{planned, giant-baby, giant-le, baby-lt, giant-climbs}
 use Rattle.linear_transformation.specs.Laws.Runs.{Joins, giants-run}
-use Rattle.linear_transformation.specs.Laws.Widths.{Distinct, distinct-planned, distinct-bound, LastLeast, last-first, last-yes, last-no, last-skip, Narrowest, gaps-positive, smallest-is, smallest-found, smallest-low, candidate-yes, candidate-is, best-is, cost-bound}
+use Rattle.linear_transformation.specs.Laws.Widths.{distinct-planned, distinct-bound, LastLeast, last-first, last-yes, last-no, last-skip, gaps-positive, smallest-is, smallest-found, smallest-low, candidate-yes, candidate-is, best-is, cost-bound}
 
 -- ---- the smallest gap
 

@@ -12,7 +12,7 @@ use lib.Pow.{pow-mono}
 use lib.IntN.{pos, _*ℤ_}
 use Rattle.ring.specs.Lists.{join}
 use Rattle.ring.specs.Searches.{below}
-use Rattle.ring.specs.Vectors.{tabulate, inFront}
+use Rattle.ring.specs.Vectors.{tabulate, inFront, Behind}
 use Rattle.ring.specs.Laws.Lists.{join-append, length-join}
 use Rattle.ring.specs.Laws.Below.{below-yes, below-no, below-before}
 use Rattle.ring.specs.Laws.Vectors.{tabulate-more, tabulate-add, inFront-more, inFront-inFront, length-inFront, length-tabulate}
@@ -20,7 +20,7 @@ use Rattle.linear_transformation.specs.declared.digits.Rot.{Rot}
 use Rattle.linear_transformation.specs.declared.digits.Digit.{Digit}
 use Rattle.linear_transformation.specs.Digits.{rotOf, levelDigit, levelRotation}
 use Rattle.linear_transformation.specs.Trees.{Pair, flag, levelWords, keyed}
-use Rattle.linear_transformation.specs.TreeSteps.{oddAt, pairAt, heapPairs, levelPairs, heapLevel, heapLevels, heapSwitches, wordsOf, keysOf, Behind, PairsFit}
+use Rattle.linear_transformation.specs.Steps.Trees.{oddAt, pairAt, heapPairs, levelPairs, heapLevel, heapLevels, heapSwitches, wordsOf, keysOf, PairsFit}
 use Rattle.linear_transformation.specs.Laws.Trees.{level-places}
 use Rattle.linear_transformation.proofs.Heaps.{pairs-length}
 
@@ -63,13 +63,13 @@ module _ {A B : Type 0} (F : A → List B) (f : ℕ → A) where
 -- ---- words behind a place
 
 -- one word more
-behind-more : (at : ℕ) (ws old : List ℕ) (to v : ℕ) → to ≡ at + length ws → to < length old → set (inFront (take at old ++ ws) old) to v ≡ inFront (take at old ++ (ws ++ (v ∷ []))) old
+pub behind-more : (at : ℕ) (ws old : List ℕ) (to v : ℕ) → to ≡ at + length ws → to < length old → set (inFront (take at old ++ ws) old) to v ≡ inFront (take at old ++ (ws ++ (v ∷ []))) old
 behind-more at ws old to v e l =
     let a : length (take at old ++ ws) ≡ to = length-append (take at old) ws ∙ rw (length-take-le at old (omega arith)) (sym e) in
     inFront-more (take at old ++ ws) old to v a l ∙ ap (λ (t : List ℕ). inFront t old) (append-assoc (take at old) ws (v ∷ []))
 
 -- nothing yet
-behind-none : (at : ℕ) (old : List ℕ) → at ≤ length old → old ≡ inFront (take at old ++ []) old
+pub behind-none : (at : ℕ) (old : List ℕ) → at ≤ length old → old ≡ inFront (take at old ++ []) old
 unfolding inFront
 behind-none at old l = sym (rw (append-nil (take at old), length-take-le at old l) (take-append-drop at old))
 
@@ -164,8 +164,8 @@ pub pairing-done : {heap : List Bool} {m at : ℕ} {old new : List ℕ} {to k : 
 pairing-done {heap} {m} {at} {old} {new} {to} {k} s h =
     let e : k ≡ m = omega (arith, s .room) in
     record {
-      written = s .so-far ∙ ap (λ (x : ℕ). inFront (take at old ++ wordsOf (heapPairs heap m x)) old) e;
-      place = s .to-is ∙ ap (λ (x : ℕ). at + length (wordsOf (heapPairs heap m x))) e;
+      is = s .so-far ∙ ap (λ (x : ℕ). inFront (take at old ++ wordsOf (heapPairs heap m x)) old) e;
+      end-is = s .to-is ∙ ap (λ (x : ℕ). at + length (wordsOf (heapPairs heap m x))) e;
     }
 
 -- ---- the pairs of all levels
@@ -209,12 +209,12 @@ module _ {b : ℕ} {heap : List Bool} {old new : List ℕ} {size at i : ℕ} (s 
       let m : length ws + length ps ≤ length old = all-room l h in
       let t : take at new ≡ ws = ap (take at) (s .so-far) ∙ front-is ws old at (sym (s .at-is)) in
       let a : length ws ≤ length (ws ++ ps) = rw (length-append ws ps) (omega arith) in
-      let w : new' ≡ inFront (ws ++ ps) old = q .written ∙ rw (t, s .so-far) (inFront-inFront (ws ++ ps) ws old a (omega arith)) in
+      let w : new' ≡ inFront (ws ++ ps) old = q .is ∙ rw (t, s .so-far) (inFront-inFront (ws ++ ps) ws old a (omega arith)) in
       record {
         halving = halving-more (s .halving) l;
         so-far = w ∙ ap (λ (t : List ℕ). inFront t old) (sym (all-words l));
         len = rw w (length-inFront (ws ++ ps) old (rw (length-append ws ps) m));
-        at-is = q .place ∙ rw (all-words l, length-append) (omega (arith, s .at-is));
+        at-is = q .end-is ∙ rw (all-words l, length-append) (omega (arith, s .at-is));
       }
 
   pub all-done : b ≤ i → new ≡ inFront (allWords b heap b) old
@@ -314,8 +314,8 @@ pub writing-done : {slots step b : ℕ} {heap : List Bool} {at : ℕ} {old new :
 writing-done {slots} {step} {b} {heap} {at} {old} {new} {size} {to} {i} s l =
     let e : i ≡ b = omega (arith, s .halving .room) in
     record {
-      written = s .so-far ∙ ap (λ (x : ℕ). inFront (take at old ++ keysUpTo slots step b heap x) old) e;
-      place = s .to-is ∙ ap (λ (x : ℕ). at + length (keysUpTo slots step b heap x)) e;
+      is = s .so-far ∙ ap (λ (x : ℕ). inFront (take at old ++ keysUpTo slots step b heap x) old) e;
+      end-is = s .to-is ∙ ap (λ (x : ℕ). at + length (keysUpTo slots step b heap x)) e;
     }
 
 -- ---- a level's rotation

@@ -1,4 +1,4 @@
--- The refusals of this crate's calls, in checking order, and their values.
+-- What this crate's calls answer and write: their refusals, in checking order, and their values.
 -- Assumes nothing.
 use Prim.Native.Nat.{ℕ, zero, suc}
 use mathlib.Core.Bool.{Bool, not}
@@ -11,7 +11,7 @@ use Rattle.ring.specs.Lists.{join}
 use Rattle.ring.specs.Vectors.{inFront}
 use Rattle.ring.specs.Answers.{answered}
 use Rattle.ring.specs.declared.Answer.{Answer}
-use Rattle.ring.specs.Residues.{residueOf}
+use Rattle.ring.specs.Residues.{residueOf, diagonalsOf}
 use Rattle.ring.specs.Divisors.{divides}
 use Rattle.ring.specs.Refusals.{firstOf, onAccept, outside}
 use Rattle.linear_transformation.specs.declared.LinearTransformationStrategy.{LinearTransformationStrategy}
@@ -24,10 +24,9 @@ use Rattle.linear_transformation.specs.declared.rotations.TreeAnswer.the
 use Rattle.linear_transformation.specs.declared.plan.PlanAnswer.{PlanAnswer}
 use Rattle.linear_transformation.specs.declared.plan.PlanAnswer.the-variants as Planned
 use Rattle.linear_transformation.specs.Strategies.{widthOutside}
-use Rattle.linear_transformation.specs.Plans.{diagonalsOf}
-use Rattle.linear_transformation.specs.Trees.{Tree, levelWords, pairWords, treeSwitches}
+use Rattle.linear_transformation.specs.Trees.{Tree, levelWords, recordWords, treeSwitches}
 use Rattle.linear_transformation.specs.Schedules.{planBabies, planGiants, planWords}
-use Rattle.linear_transformation.specs.Rotations.{noBaby, giantRefusals, listTree, babyRefusals, passesOf, passWords, moveWords}
+use Rattle.linear_transformation.specs.Listed.{noBaby, giantRefusals, listTree, babyRefusals, passesOf, passWords, moveWords}
 use Rattle.linear_transformation.specs.declared.digits.Digit.{Digit}
 use Rattle.linear_transformation.specs.declared.digits.DigitAnswer.{DigitAnswer}
 use Rattle.linear_transformation.specs.declared.digits.DigitAnswer.the-variants.{Refused, Is}
@@ -40,12 +39,12 @@ normalizeRefusal slots = firstOf ((outside slots, 1) ∷ [])
 abbrev pub babyRefusal : ℤ → ℕ → ℕ
 babyRefusal baby step = firstOf ((outside step, 3) ∷ (noBaby baby step, 9) ∷ [])
 
--- `giant_digit`: the rotation's residue is no multiple of the step
+-- `giant_digit`; 10: the rotation's residue is no multiple of the step
 abbrev pub digitRefusal : ℕ → ℕ → ℤ → ℕ
 digitRefusal slots step rot =
     firstOf ((outside slots, 1) ∷ (outside step, 3) ∷ (not (divides step (residueOf rot slots)), 10) ∷ [])
 
--- an answer that is a refusal or a digit: for each case document 01's number and value
+-- document 01's numbers of an answer: the refusal and the digit
 abbrev pub digitNumbers : DigitAnswer → ℕ × ℤ
 digitNumbers (Refused e) = (e, pos 0)
 digitNumbers (Is d) = (0, d .0)
@@ -68,7 +67,7 @@ pub record ListWritten (cs : List (Bool × ℕ)) (result old new : List ℕ) (r 
 abbrev pub planRefusals : ℕ → LinearTransformationStrategy → List (Bool × ℕ)
 planRefusals slots strategy = (outside slots, 1) ∷ (widthOutside strategy, 3) ∷ []
 
--- the refusal, and the numbers of babies, giants and diagonals
+-- document 01's numbers of a plan's answer: the refusal, and how many babies, giants and diagonals
 abbrev pub planNumbers : PlanAnswer → List ℕ
 planNumbers (Planned.Refused e) = e ∷ 0 ∷ 0 ∷ 0 ∷ []
 planNumbers (Planned.Is b g d) = 0 ∷ b ∷ g ∷ d ∷ []
@@ -88,7 +87,7 @@ pub record PlanWritten (slots : ℕ) (strategy : LinearTransformationStrategy) (
 
 -- ---- passes
 
--- the refusal, and the numbers of passes and moves
+-- document 01's numbers of the answer: the refusal, and how many passes and moves
 abbrev pub passNumbers : PassesAnswer → List ℕ
 passNumbers (Passed.Refused e) = e ∷ 0 ∷ 0 ∷ []
 passNumbers (Passed.Is p m) = 0 ∷ p ∷ m ∷ []
@@ -97,7 +96,7 @@ abbrev pub passAnswered : ℕ → ℕ → ℕ → PassesAnswer
 passAnswered zero p m = Passed.Is p m
 passAnswered (suc e) p m = Passed.Refused (suc e)
 
--- `baby_passes`: two words a pass, and two a move
+-- `baby_passes`: three words a pass, and two a move
 abbrev pub passRefusal : BsgsRotations → List ℤ → List ℕ → List ℕ → ℕ
 passRefusal rotations bs passes moves =
     firstOf (babyRefusals rotations bs ++ (ltb (length passes) (length (passWords (passesOf rotations bs))), 12) ∷ (ltb (length moves) (length (moveWords (passesOf rotations bs))), 12) ∷ [])
@@ -109,7 +108,7 @@ pub record PassesWritten (rotations : BsgsRotations) (bs : List ℤ) (passes pas
 
 -- ---- trees
 
--- the refusal, b (0: no tree, per rotation) and the number of pairs
+-- document 01's numbers of a tree's answer: the refusal, b (0: no tree, per rotation) and how many pairs
 abbrev pub treeNumbers : TreeAnswer → List ℕ
 treeNumbers (Grown.Refused e) = e ∷ 0 ∷ 0 ∷ []
 treeNumbers Grown.NoTree = 0 ∷ 0 ∷ 0 ∷ []
@@ -124,7 +123,7 @@ abbrev pub treeRoom : Tree → List ℕ → List ℕ → List ℕ → List (Bool
 treeRoom t leaves levels pairs =
     (ltb (length leaves) (length (t .leaves)), 12)
     ∷ (ltb (length levels) (length (levelWords (t .levels))), 12)
-    ∷ (ltb (length pairs) (length (pairWords (t .levels))), 12)
+    ∷ (ltb (length pairs) (length (recordWords (t .levels))), 12)
     ∷ []
 
 -- what the call leaves, by its refusal
@@ -132,7 +131,7 @@ pub record TreeLeft (e : ℕ) (t : Tree) (leaves leaves' levels levels' pairs pa
   pub answer : r ≡ treeAnswered e t
   pub leaves-are : leaves' ≡ onAccept e (inFront (t .leaves) leaves) leaves
   pub levels-are : levels' ≡ onAccept e (inFront (levelWords (t .levels)) levels) levels
-  pub pairs-are : pairs' ≡ onAccept e (inFront (pairWords (t .levels)) pairs) pairs
+  pub pairs-are : pairs' ≡ onAccept e (inFront (recordWords (t .levels)) pairs) pairs
 
 -- per rotation there is no tree, and nothing is written
 pub record NoneLeft (leaves leaves' levels levels' pairs pairs' : List ℕ) (r : TreeAnswer) : Type 0 where

@@ -1,14 +1,13 @@
--- Document 01, "Keys": the closure of the babies, and the passes. A baby is a multiple k of the baby step; b bits hold
--- every k, so with babies below 65,536 b is 16.
+-- Document 01, "Keys": the closure of the babies, and the passes. A baby is k times the baby step, and b bits hold every
+-- k: with babies below 65,536 b is 16.
 -- Assumes nothing.
 use Prim.Native.Nat.{ℕ, zero, suc, _*_, _-_, _^_}
-use mathlib.Core.Bool.{Bool, not, _&&_}
+use mathlib.Core.Bool.{Bool, true, false, not, _&&_}
 use mathlib.Core.List.{List, [], _∷_, _++_, map}
 use lib.Dec.{leb, eqb}
-use Rattle.ring.specs.Lists.{join}
+use Rattle.ring.specs.Lists.{join, among}
 use Rattle.ring.specs.Searches.{greatest, below, only}
 use Rattle.ring.specs.Vectors.{tabulate}
-use Rattle.linear_transformation.specs.Plans.{among}
 
 -- the place of the top bit of k ≥ 1: the largest i with 2^i ≤ k
 unfoldable pub topBit : ℕ → ℕ
@@ -42,6 +41,11 @@ hasTop i k = not (eqb k 0) && eqb (topBit k) i
 -- what pass i makes: the cached k whose top bit is 2^i, in their order
 unfoldable pub targets : List ℕ → ℕ → List ℕ
 targets cached i = join (λ k. only (hasTop i k) k) cached
+
+-- the list has an element
+abbrev pub nonEmpty : List ℕ → Bool
+nonEmpty [] = false
+nonEmpty (k ∷ ks) = true
 
 -- pass i, rotation 2^i·step: each target k·step is read from (k - 2^i)·step
 pub record Pass : Type 0 where

@@ -1,6 +1,7 @@
 -- Document 01, "Keys": giant digits, the number b, leaves, and the rotations of the tree's levels.
 -- Assumes nothing. Rotations and digits are two types: only `digit` and `levelRotation` lead from one to the other.
-use Prim.Native.Nat.{ℕ, suc, _*_, _-_, _/_, _^_, max}
+use Prim.Native.Nat.{ℕ, suc, _*_, _-_, _/_, _%_, _^_, _<_, max}
+use mathlib.Core.Path.{_≡_}
 use mathlib.Core.Bool.{Bool, true, cond, _&&_}
 use mathlib.Core.List.{List, [], _∷_}
 use lib.Dec.{leb, eqb}
@@ -15,6 +16,11 @@ use Rattle.linear_transformation.specs.declared.digits.Digit.{Digit}
 -- the rotation by z, reduced modulo slots
 abbrev pub rotOf : ℕ → ℤ → Rot
 rotOf slots z = record { 0 = residueOf z slots }
+
+-- a giant: reduced modulo slots, and a multiple of the step
+pub record Giant (slots step : ℕ) (rot : Rot) : Type 0 where
+  pub reduced : rot .0 < slots
+  pub multiple : rot .0 % step ≡ 0
 
 -- j = rotation / step; if the step divides slots and 2j ≥ period = slots / step, j - period
 unfoldable pub digit : ℕ → ℕ → Rot → Digit
@@ -31,7 +37,7 @@ unfoldable pub allWithin : ℕ → List Digit → Bool
 allWithin b [] = true
 allWithin b (d ∷ ds) = within b d && allWithin b ds
 
--- the largest magnitude of the digits; b is at most one more, so the search for it ends there
+-- the largest magnitude of the digits, n for n and for -(n + 1); b is at most one more, so the search for it ends there
 unfoldable pub largest : List Digit → ℕ
 largest [] = 0
 largest (d ∷ ds) = max (mag (d .0)) (largest ds)

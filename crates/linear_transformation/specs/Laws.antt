@@ -1,5 +1,4 @@
 -- What is proved of the definitions: for any slots, any step and any b.
-pub mod Members
 pub mod Plans
 pub mod Closures
 pub mod Passes

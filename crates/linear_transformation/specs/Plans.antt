@@ -1,35 +1,27 @@
 -- Document 01, "Plan": diagonals, babies, giants, the index, and the plan's words.
--- Assumes nothing. Before the closure of "Keys", which is about the babies alone.
-use Prim.Native.Nat.{ℕ, _+_, _-_, _%_}
-use mathlib.Core.Bool.{Bool, false, _||_}
+-- Assumes nothing. The babies are those before the closure of "Keys", which changes nothing else.
+use Prim.Native.Nat.{ℕ, _+_, _-_, _%_, _<_}
+use mathlib.Core.Bool.{_||_}
 use mathlib.Core.List.{List, [], _∷_, _++_}
 use lib.Dec.{eqb}
-use lib.IntN.{ℤ}
 use lib.ListN.{length}
-use Rattle.ring.specs.Lists.{join}
-use Rattle.ring.specs.Residues.{residueOf}
+use Rattle.ring.specs.Lists.{join, some, Each, Rising}
 use Rattle.ring.specs.Searches.{only, below}
 use Rattle.linear_transformation.specs.declared.LinearTransformationStrategy.{LinearTransformationStrategy}
 use Rattle.linear_transformation.specs.declared.LinearTransformationStrategy.the-variants.{Bsgs, BsgsPowersOfTwo, Direct}
 
--- p of some element of the list
-abbrev pub some : {A : Type 0} → (A → Bool) → List A → Bool
-some p [] = false
-some p (x ∷ xs) = p x || some p xs
-
--- k is one of the numbers
-abbrev pub among : ℕ → List ℕ → Bool
-among k xs = some (λ x. eqb x k) xs
-
 -- ---- diagonals
 
--- an index of the list has the residue k
-unfoldable pub named : ℕ → List ℤ → ℕ → Bool
-named slots indexes k = some (λ z. eqb (residueOf z slots) k) indexes
+-- distinct diagonals: rising, below slots
+pub record Distinct (slots : ℕ) (ds : List ℕ) : Type 0 where
+  pub rises : Rising ds
+  pub low : Each (λ k. k < slots) ds
 
--- the diagonals that a list of indexes names: rising, distinct
-unfoldable pub diagonalsOf : ℕ → List ℤ → List ℕ
-diagonalsOf slots indexes = below (named slots indexes) slots
+-- what a plan is made of: distinct diagonals, and a width that is not 0
+pub record Planned (slots width : ℕ) (ks : List ℕ) : Type 0 where
+  pub rises : Rising ks
+  pub low : Each (λ k. k < slots) ks
+  pub positive : 0 < width
 
 -- ---- babies and giants
 
@@ -65,7 +57,7 @@ babiesAt width diagonals g = join (λ k. only (eqb (giantOf width k) g) (babyOf 
 unfoldable pub planIndex : ℕ → ℕ → List ℕ → List ℕ
 planIndex slots width diagonals = join (babiesAt width diagonals) (giants slots width diagonals)
 
--- where the lists f g of some giants stand one after the other, from start on: pairs (start, length)
+-- the pair (start, length) of each list f g, where the lists of the giants stand one after the other from start on
 abbrev pub cuts : (ℕ → List ℕ) → ℕ → List ℕ → List (ℕ × ℕ)
 cuts f start [] = []
 cuts f start (g ∷ gs) = (start, length (f g)) ∷ cuts f (start + length (f g)) gs

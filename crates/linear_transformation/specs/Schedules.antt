@@ -1,7 +1,9 @@
 -- Document 01, "Plan" and "Keys": what a strategy makes of a list of diagonals: babies, words, keys and switches.
 -- Assumes nothing.
 use Prim.Native.Nat.{ℕ, _+_, _/_}
-use mathlib.Core.List.{List, _++_, map}
+use mathlib.Core.List.{List, _++_, map, List·Memᴰ}
+use lib.IntN.{ℤ, pos}
+use lib.Signed.{_≤ℤ_}
 use lib.ListN.{length}
 use Rattle.ring.specs.Divisors.{gcdAll}
 use Rattle.ring.specs.Searches.{orElse}
@@ -9,7 +11,9 @@ use Rattle.linear_transformation.specs.declared.LinearTransformationStra
 use Rattle.linear_transformation.specs.declared.LinearTransformationStrategy.the-variants.{Bsgs, BsgsPowersOfTwo, Direct}
 use Rattle.linear_transformation.specs.Plans.{widthOf, babies, giants, wordsWith}
 use Rattle.linear_transformation.specs.Closures.{closure, babyClosure, passRotations, nonzeros}
-use Rattle.linear_transformation.specs.Trees.{Tree, treeOf, treeKeys, treeSwitches}
+use Rattle.linear_transformation.specs.declared.digits.Rot.{Rot}
+use Rattle.linear_transformation.specs.declared.digits.Digit.{Digit}
+use Rattle.linear_transformation.specs.Trees.{Tree, digitsOf, treeOf, treeKeys, treeSwitches}
 
 -- the baby step: the greatest common divisor of the plan's babies, or 1 if that is 0
 unfoldable pub babyStep : ℕ → ℕ → List ℕ → ℕ
@@ -34,9 +38,17 @@ unfoldable pub planWords : ℕ → LinearTransformationStrategy → List ℕ →
 planWords slots strategy diagonals =
     wordsWith (planBabies slots strategy diagonals) slots (widthOf strategy) diagonals
 
--- the tree over a plan's giants, which are residues already; the giant step is the width
+-- the plan's giants as rotations: they are residues already
+abbrev pub planRots : ℕ → ℕ → List ℕ → List Rot
+planRots slots width diagonals = map (λ g. record { 0 = g }) (giants slots width diagonals)
+
+-- the giant digits: those of the plan's giants, 0 only if a giant has it
+abbrev pub giantDigits : ℕ → ℕ → List ℕ → List Digit
+giantDigits slots width diagonals = digitsOf slots width (planRots slots width diagonals)
+
+-- the tree over a plan's giants; the giant step is the width
 unfoldable pub planTree : ℕ → ℕ → List ℕ → Tree
-planTree slots width diagonals = treeOf slots width (map (λ g. record { 0 = g }) (giants slots width diagonals))
+planTree slots width diagonals = treeOf slots width (planRots slots width diagonals)
 
 -- the key rotations of babies and giants where each has its own key
 abbrev pub keysPerRotation : List ℕ → List ℕ → List ℕ
@@ -61,3 +73,14 @@ giantSwitches slots Direct diagonals = length (nonzeros (giants slots 1 diagonal
 unfoldable pub planSwitches : ℕ → LinearTransformationStrategy → List ℕ → ℕ
 planSwitches slots strategy diagonals =
     length (nonzeros (planBabies slots strategy diagonals)) + giantSwitches slots strategy diagonals
+
+-- ---- gaps
+
+-- no gap: every whole number between two of the list is in it
+abbrev pub NoGap : List ℤ → Type 0
+NoGap zs = (x y z : ℤ) → List·Memᴰ x zs → List·Memᴰ y zs → x ≤ℤ z → z ≤ℤ y → List·Memᴰ z zs
+
+-- neither the baby multiples nor the giant digits of a plan have a gap
+pub record NoGaps (slots width : ℕ) (diagonals : List ℕ) : Type 0 where
+  pub multiples : NoGap (map pos (babyMultiples slots width diagonals))
+  pub digits : NoGap (map (λ d. d .0) (giantDigits slots width diagonals))

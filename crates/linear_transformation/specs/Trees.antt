@@ -5,12 +5,11 @@ use mathlib.Core.Bool.{Bool, true, false}
 use mathlib.Core.List.{List, [], _∷_, map}
 use lib.Dec.{eqb}
 use lib.ListN.{length}
-use Rattle.ring.specs.Lists.{join}
+use Rattle.ring.specs.Lists.{join, some}
 use Rattle.ring.specs.Searches.{below, only}
 use Rattle.ring.specs.Vectors.{tabulate}
 use Rattle.linear_transformation.specs.declared.digits.Rot.{Rot}
 use Rattle.linear_transformation.specs.declared.digits.Digit.{Digit}
-use Rattle.linear_transformation.specs.Plans.{some}
 use Rattle.linear_transformation.specs.Digits.{digit, bitsOf, leaf, levelRotation}
 
 -- the digits of the giants, in their order
@@ -49,7 +48,7 @@ unfoldable pub levelsOf : ℕ → ℕ → ℕ → List ℕ → List Level
 levelsOf slots step b leaves =
     tabulate b (λ i. record { rotation = levelRotation slots step b i; pairs = pairsAt b leaves i })
 
--- the tree's answer
+-- a tree: b, the leaves of the giants and the levels
 pub record Tree : Type 0 where
   pub bits : ℕ
   pub leaves : List ℕ
@@ -72,8 +71,8 @@ flag true = 1
 flag false = 0
 
 -- the pairs of all levels, level after level: the odd node and the flag
-abbrev pub pairWords : List Level → List ℕ
-pairWords ls = join (λ l. join (λ p. p .odd ∷ flag (p .even-there) ∷ []) (l .pairs)) ls
+abbrev pub recordWords : List Level → List ℕ
+recordWords ls = join (λ l. join (λ p. p .odd ∷ flag (p .even-there) ∷ []) (l .pairs)) ls
 
 -- ---- keys and switches
 

@@ -1,4 +1,4 @@
--- Document 01, "Best width": among the multiples of the smallest gap, below slots, the one of least cost; the largest of
+-- Document 01, "Best width": among the multiples of the smallest gap, below slots, those of least cost; the largest of
 -- these.
 -- Assumes nothing.
 use Prim.Native.Nat.{ℕ, _*_, _-_, max}
@@ -8,7 +8,8 @@ use lib.Dec.{leb, ltb, eqb}
 use lib.ListN.{length}
 use Rattle.ring.specs.Divisors.{divides}
 use Rattle.ring.specs.Searches.{least, greatest, every, below}
-use Rattle.linear_transformation.specs.Plans.{some, among, babyOf, giants}
+use Rattle.linear_transformation.specs.Plans.{babyOf, giants}
+use Rattle.ring.specs.Lists.{some, among}
 
 -- the gaps between neighbours
 abbrev pub gaps : List ℕ → List ℕ
@@ -38,7 +39,7 @@ unfoldable pub cheapest : ℕ → List ℕ → ℕ → Bool
 cheapest slots diagonals width =
     every (λ v. not (candidate slots diagonals v) || leb (cost slots diagonals width) (cost slots diagonals v)) slots
 
--- the largest of the cheapest candidates; 1 of one or no diagonal
+-- the largest of the cheapest candidates; for one or no diagonal 1
 unfoldable pub bestWidth : ℕ → List ℕ → ℕ
 bestWidth slots [] = 1
 bestWidth slots (k ∷ []) = 1

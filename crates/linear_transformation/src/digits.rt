@@ -4,9 +4,9 @@ ghost use mathlib.Core.Path.{_≡_};
 ghost use Rattle.ring.specs.Answers.{answered};
 ghost use Rattle.ring.specs.Refusals.{Range};
 ghost use Rattle.linear_transformation.specs.Digits.{rotOf, digit};
-ghost use Rattle.linear_transformation.specs.Rotations.{noBaby, babyMultiple};
+ghost use Rattle.linear_transformation.specs.Listed.{noBaby, babyMultiple};
 ghost use Rattle.linear_transformation.specs.Calls.{babyRefusal, digitRefusal, digitAnswered};
-ghost use Rattle.linear_transformation.specs.Steps.{Digitable};
+ghost use Rattle.linear_transformation.specs.Steps.Numbers.{Digitable};
 
 // A rotation, reduced modulo slots.
 pub struct Rot(pub u32);

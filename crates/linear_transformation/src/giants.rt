@@ -1,8 +1,6 @@
 // The tree over a list of giants, its keys and its switches.
 ghost use mathlib.Core.Path.{_≡_};
 ghost use Prim.Native.Nat.{_<_, _≤_, _^_};
-ghost use mathlib.Core.List.{map};
-ghost use lib.IntN.{natAbs};
 ghost use lib.Signed.{mag};
 ghost use lib.ListN.{length};
 ghost use Rattle.ring.specs.Vectors.{inFront};
@@ -10,11 +8,10 @@ ghost use Rattle.ring.specs.Refusals.{firstOf};
 ghost use Rattle.ring.specs.Answers.{answered};
 ghost use Rattle.linear_transformation.specs.declared.rotations.BsgsRotations.the-variants.{PowersOfTwo};
 ghost use Rattle.linear_transformation.specs.Digits.{leaf};
-ghost use Rattle.linear_transformation.specs.Closures.{nonzeros};
 ghost use Rattle.linear_transformation.specs.Trees.{treeKeys, treeSwitches};
-ghost use Rattle.linear_transformation.specs.Rotations.{giantRefusals, listTree, giantKeysOf, giantSwitchesOf};
+ghost use Rattle.linear_transformation.specs.Listed.{giantRefusals, listTree, giantKeysOf, giantSwitchesOf};
 ghost use Rattle.linear_transformation.specs.Calls.{ListWritten, TreeWritten};
-ghost use Rattle.linear_transformation.specs.TreeSteps.{Stepped, Listing, AreMultiples, GiantsJudged, OneGiant, digitAt, DigitIs, LargestIs, BitsAre, LeafAsked, LeafIs, LeavesAsked, leavesAt, Blank, LeavesMarked, Planted};
+ghost use Rattle.linear_transformation.specs.Steps.Trees.{Stepped, Listing, AreMultiples, GiantsJudged, OneGiant, DigitIs, LargestIs, BitsAre, LeafAsked, LeafIs, LeavesAsked, leavesAt, Blank, LeavesMarked, Planted};
 use crate::babies::count_nonzeros;
 use crate::digits::Digit;
 use crate::digits::Rot;

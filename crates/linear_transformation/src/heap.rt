@@ -6,10 +6,10 @@ ghost use lib.IntN.{pos, _*ℤ_};
 ghost use mathlib.Core.Bool.{_||_};
 ghost use lib.ListN.{length};
 ghost use Rattle.ring.specs.Lists.{join};
-ghost use Rattle.ring.specs.Vectors.{tabulate, inFront};
+ghost use Rattle.ring.specs.Vectors.{tabulate, inFront, Behind};
 ghost use Rattle.linear_transformation.specs.Digits.{rotOf, levelRotation};
 ghost use Rattle.linear_transformation.specs.Trees.{flag, levelWords};
-ghost use Rattle.linear_transformation.specs.TreeSteps.{Climbing, Climbed, heapPairs, levelPairs, heapLevels, heapSwitches, Turnable, LevelDigit, LevelAsked, LevelsAsked, PairsFit, Behind, wordsOf, keysOf};
+ghost use Rattle.linear_transformation.specs.Steps.Trees.{Climbing, Climbed, heapPairs, levelPairs, heapLevels, heapSwitches, Turnable, LevelDigit, LevelAsked, LevelsAsked, PairsFit, wordsOf, keysOf};
 use crate::digits::Digit;
 use crate::digits::Rot;
 
@@ -33,7 +33,7 @@ fn either(a: bool, b: bool) -> bool
     b
 }
 
-// Marks the parents of the marked leaves, level after level.
+// Marks the nodes above the marked leaves, level after level.
 pub(crate) fn climb(size: usize, heap: &mut [bool; 131072])
     requires { ⌜ Climbing size (now heap) ⌝ }
     ensures { λ _. ⌜ Climbed size (now (heap .entry)) (now (heap .exit)) ⌝ }

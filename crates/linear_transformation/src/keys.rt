@@ -8,13 +8,14 @@ ghost use Rattle.ring.specs.Answers.{answered};
 ghost use Rattle.ring.specs.Refusals.{firstOf, Range};
 ghost use Rattle.linear_transformation.specs.declared.LinearTransformationStrategy.the-variants.{BsgsPowersOfTwo};
 ghost use Rattle.linear_transformation.specs.Strategies.{widthOutside};
-ghost use Rattle.linear_transformation.specs.Plans.{diagonalsOf, babies, giants};
+ghost use Rattle.linear_transformation.specs.Plans.{babies, giants};
+ghost use Rattle.ring.specs.Residues.{diagonalsOf};
 ghost use Rattle.linear_transformation.specs.Closures.{nonzeros};
 ghost use Rattle.linear_transformation.specs.Schedules.{babyStep, planBabies, keysPerRotation, planKeys, planSwitches};
 ghost use Rattle.linear_transformation.specs.Calls.{ListWritten, planRefusals};
-ghost use Rattle.linear_transformation.specs.PlanSteps.{Writing, Diagonals};
-ghost use Rattle.linear_transformation.specs.TreeSteps.{LargestIs, leavesAt, Blank, LeavesMarked, Planted};
-ghost use Rattle.linear_transformation.specs.KeySteps.{Sizable, Accepted, giantsOf, Switches, BabySwitches};
+ghost use Rattle.linear_transformation.specs.Steps.Plans.{Writing, Diagonals};
+ghost use Rattle.linear_transformation.specs.Steps.Trees.{LargestIs, leavesAt, Blank, LeavesMarked, Planted};
+ghost use Rattle.linear_transformation.specs.Steps.Keys.{Sizable, Accepted, giantsOf, Switches, BabySwitches};
 use crate::LinearTransformationStrategy;
 use crate::babies::count_tops;
 use crate::babies::write_tops;
@@ -27,7 +28,6 @@ use crate::heap::keys_count;
 use crate::heap::power;
 use crate::heap::tree_size;
 use crate::heap::write_keys;
-use crate::marks::count_marks;
 use crate::marks::mark_closure;
 use crate::marks::mark_own;
 use crate::marks::mark_plan;
@@ -140,7 +140,7 @@ fn write_babies(
 {
     let mut seen = [false; 65536];
     let marked = mark_plan(ds, slots, strategy, &mut seen);
-    let count = count_marks(&seen, marked.n);
+    let count = ring::count_marks(&seen, marked.n);
     if out.len() < count {
         return ring::Answer::Refused(12);
     }
@@ -211,7 +211,7 @@ fn baby_switches(ds: &[u32], slots: u32, strategy: LinearTransformationStrategy)
     let mut seen = [false; 65536];
     let marked = mark_plan(ds, slots, strategy, &mut seen);
     seen[0] = false;
-    count_marks(&seen, marked.n)
+    ring::count_marks(&seen, marked.n)
 }
 
 fn switches_named(indexes: &[i64], slots: u32, strategy: LinearTransformationStrategy) -> usize
@@ -241,7 +241,7 @@ pub fn plan_key_switches(
     ring::Answer::Is(switches_named(indexes, slots as u32, strategy))
 }
 
-// The keys where each rotation has its own: the babies, then the giants that are not 0.
+// The keys where each rotation has its own: the nonzero babies, then the nonzero giants.
 fn own_keys(ds: &[u32], slots: u32, width: u32, out: &mut [u32]) -> ring::Answer
     requires { ⌜ Sizable slots width (now ds) ⌝ }
     ensures { λ r. ⌜ ListWritten [] (keysPerRotation (babies slots width (now (ds .entry))) (giants slots width (now (ds .entry)))) (now (out .entry)) (now (out .exit)) r ⌝ }
@@ -249,7 +249,7 @@ fn own_keys(ds: &[u32], slots: u32, width: u32, out: &mut [u32]) -> ring::Answer
     let mut seen = [false; 65536];
     let marked = mark_own(ds, slots, width, &mut seen);
     seen[0] = false;
-    let count = count_marks(&seen, marked.n);
+    let count = ring::count_marks(&seen, marked.n);
     let turns = count_turns(ds, width);
     if out.len() < count + turns {
         return ring::Answer::Refused(12);

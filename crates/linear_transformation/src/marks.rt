@@ -1,5 +1,4 @@
 // Tables of the babies' multiples of a step, and what is listed from them.
-ghost use mathlib.Core.Path.{_≡_};
 ghost use mathlib.Core.List.{map};
 ghost use Prim.Native.Nat.{_*_, _≤_};
 ghost use lib.ListN.{length};
@@ -8,27 +7,13 @@ ghost use Rattle.ring.specs.Marks.{marks, Unmarked};
 ghost use Rattle.ring.specs.Refusals.{Range};
 ghost use Rattle.linear_transformation.specs.Plans.{babies};
 ghost use Rattle.linear_transformation.specs.Schedules.{planBabies};
-ghost use Rattle.linear_transformation.specs.PlanSteps.{Writing};
-ghost use Rattle.linear_transformation.specs.KeySteps.{Sizable, Accepted, BabyTable, ClosureTable};
+ghost use Rattle.linear_transformation.specs.Steps.Plans.{Writing};
+ghost use Rattle.linear_transformation.specs.Steps.Keys.{Sizable, Accepted, BabyTable, ClosureTable};
 use crate::LinearTransformationStrategy;
 use crate::babies::close;
 use crate::plan::baby_step_of;
 use crate::plan::mark_babies;
 use crate::plan::multiples_end;
-
-// How many of the numbers below n are marked.
-pub(crate) fn count_marks(seen: &[bool; 65536], n: usize) -> usize
-    requires { ⌜ n ≤ 65536 ⌝ }
-    ensures { λ r. ⌜ r ≡ length (below (marks (now (seen .entry))) n) ⌝ }
-{
-    let mut count = 0;
-    for k in 0..n {
-        if seen[k] {
-            count += 1;
-        }
-    }
-    count
-}
 
 // Writes k·step in front of out for each marked k below n; gives the place behind them.
 pub(crate) fn write_marks(seen: &[bool; 65536], n: usize, step: usize, out: &mut [u32]) -> usize

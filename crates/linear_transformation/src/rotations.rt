@@ -1,5 +1,5 @@
 // How a run reaches its rotations, and the answers of the calls about lists of babies and giants.
-ghost use Rattle.linear_transformation.specs.Steps.{StepsJudged};
+ghost use Rattle.linear_transformation.specs.Steps.Numbers.{StepsJudged};
 ghost use Rattle.linear_transformation.specs.declared.rotations.BsgsRotations.the-variants.{PowersOfTwo};
 
 // One key for each rotation, or the keys of the power-of-two multiples of the two steps.

@@ -5,12 +5,12 @@ ghost use Prim.Native.Nat.{_≤_};
 ghost use lib.ListN.{length};
 ghost use Rattle.ring.specs.Answers.{answered};
 ghost use Rattle.ring.specs.Refusals.{Range};
-ghost use Rattle.linear_transformation.specs.Plans.{diagonalsOf};
+ghost use Rattle.ring.specs.Residues.{diagonalsOf};
 ghost use Rattle.linear_transformation.specs.Widths.{bestWidth};
 ghost use Rattle.linear_transformation.specs.Calls.{normalizeRefusal};
-ghost use Rattle.linear_transformation.specs.PlanSteps.{Diagonals};
-ghost use Rattle.linear_transformation.specs.WidthSteps.{Choice, Fresh, Weighed};
-ghost use Rattle.linear_transformation.specs.Laws.Widths.{Distinct, Narrowest};
+ghost use Rattle.linear_transformation.specs.Steps.Plans.{Diagonals};
+ghost use Rattle.linear_transformation.specs.Steps.Widths.{Choice, Fresh, Weighed, Narrowest};
+ghost use Rattle.linear_transformation.specs.Plans.{Distinct};
 
 fn smallest_gap(ds: &[u32]) -> u32
     requires { ⌜ Distinct 65536 (now ds) ⌝ }

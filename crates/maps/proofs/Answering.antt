@@ -7,25 +7,26 @@ use native.Mathlib.Nat.{suc-ne-zero, one-mul, dvd-trans}
 use native.Mathlib.Omega.{arith}
 use borrow.Author.Tests.{eq-eqb, ne-eqb}
 use lib.ListN.{length}
+use Rattle.ring.specs.Slots.{modulus}
 use Rattle.ring.specs.Refusals.{pick, firstOf}
 use Rattle.ring.specs.declared.Answer.{Answer}
 use Rattle.ring.specs.declared.Answer.the-variants.{Refused}
 use Rattle.ring.specs.Laws.Refusals.{first-refused, first-later, not-outside}
 use Rattle.ring.specs.Laws.Divisors.{divides-yes}
 use Rattle.diagonals.specs.SlotMaps.{slotMap}
-use Rattle.diagonals.specs.Calls.{noRoom, MapWritten, periodRefusals}
+use Rattle.diagonals.specs.Calls.{mapRoom, MapWritten, periodRefusals}
 use Rattle.diagonals.specs.Laws.Calls.{written-refused}
-use Rattle.diagonals.specs.SlotSteps.{PlacesOf, SumsOf}
+use Rattle.diagonals.specs.Building.{PlacesOf, SumsOf}
 use Rattle.maps.specs.declared.rules.Rule.{Rule}
-use Rattle.maps.specs.Readings.{wholeMap}
+use Rattle.maps.specs.Readings.{ruleTerms, wholeMap}
 use Rattle.maps.specs.Calls.{noMatrices, ruleRefusal, productRefusal}
-use Rattle.maps.specs.TileSteps.{Tiling, TilesJudged}
+use Rattle.maps.specs.Steps.Tiles.{Tiling, TilesJudged}
 use Rattle.maps.specs.Laws.Tiling.{some-squared, tiling, tiles-first, tiles-later}
 use Rattle.maps.specs.Sums.{periodOf, productMap}
-use Rattle.maps.specs.SumSteps.{plainRows, Outputs, SumsUpTo, productRefusals, ProductJudged}
+use Rattle.maps.specs.Steps.Sums.{plainRows, Outputs, SumsUpTo, productRefusals, ProductJudged}
 use Rattle.maps.specs.declared.rules.Product.{Product}
 use Rattle.maps.proofs.Summing.{PeriodIs, period-is, outputs-are, slot-inside, rows-same}
-use Rattle.maps.specs.ReadingSteps.{ruleTerms, Ruled, ruleRefusals, RuleJudged}
+use Rattle.maps.specs.Steps.Readings.{Ruled, ruleRefusals, RuleJudged}
 
 -- a period of the slots
 pub period-accepted : (slots p : ℕ) → 1 ≤ slots → slots ≤ 65536 → 1 ≤ p → p ∣ slots → firstOf (periodRefusals slots p) ≡ 0
@@ -37,22 +38,22 @@ period-accepted slots p s l h d = rw (not-outside slots s l, ne-eqb p 0 (λ e. n
 -- ---- rules
 
 pub rule-refused : {slots logD r : ℕ} {rule : Rule} (pairs values : List ℕ) → RuleJudged slots logD rule r → (r ≡ 0 → ⊥)
-    → MapWritten (ruleRefusal slots logD rule pairs values) (wholeMap slots (2 ^ logD) rule) pairs pairs values values (Refused r)
+    → MapWritten (ruleRefusal slots logD rule pairs values) (wholeMap modulus slots (2 ^ logD) rule) pairs pairs values values (Refused r)
 rule-refused {slots} {logD} {r} {rule} pairs values j n =
-    written-refused (j .answer ∙ sym (first-refused (ruleRefusals slots logD rule) ((noRoom (wholeMap slots (2 ^ logD) rule) pairs values, 12) ∷ []) (λ h. n (j .answer ∙ h)))) n
+    written-refused (j .answer ∙ sym (first-refused (ruleRefusals slots logD rule) (mapRoom (wholeMap modulus slots (2 ^ logD) rule) pairs values) (λ h. n (j .answer ∙ h)))) n
 
 module _ {slots logD d r : ℕ} {rule : Rule} (j : RuleJudged slots logD rule r) (z : r ≡ 0) (s : d ≡ 2 ^ logD) where
-  whole : wholeMap slots (2 ^ logD) rule ≡ slotMap slots (d * d) (ruleTerms rule d)
+  whole : wholeMap modulus slots (2 ^ logD) rule ≡ slotMap modulus slots (d * d) (ruleTerms rule d)
   unfolding wholeMap
   whole = rw (← s)
 
-  pub rule-room : (pairs values : List ℕ) → ruleRefusal slots logD rule pairs values ≡ pick (noRoom (slotMap slots (d * d) (ruleTerms rule d)) pairs values) 12 0
+  pub rule-room : (pairs values : List ℕ) → ruleRefusal slots logD rule pairs values ≡ firstOf (mapRoom (slotMap modulus slots (d * d) (ruleTerms rule d)) pairs values)
   rule-room pairs values =
-      first-later (ruleRefusals slots logD rule) ((noRoom (wholeMap slots (2 ^ logD) rule) pairs values, 12) ∷ []) (suc-ne-zero 0, (suc-ne-zero 4, (suc-ne-zero 5, tt))) (sym (j .answer) ∙ z)
+      first-later (ruleRefusals slots logD rule) (mapRoom (wholeMap modulus slots (2 ^ logD) rule) pairs values) (suc-ne-zero 0, (suc-ne-zero 4, (suc-ne-zero 5, tt))) (sym (j .answer) ∙ z)
       ∙ rw whole
 
-  pub rule-written : {e : ℕ} {pairs₀ pairs₁ values₀ values₁ : List ℕ} {a : Answer} → MapWritten e (slotMap slots (d * d) (ruleTerms rule d)) pairs₀ pairs₁ values₀ values₁ a
-      → MapWritten e (wholeMap slots (2 ^ logD) rule) pairs₀ pairs₁ values₀ values₁ a
+  pub rule-written : {e : ℕ} {pairs₀ pairs₁ values₀ values₁ : List ℕ} {a : Answer} → MapWritten e (slotMap modulus slots (d * d) (ruleTerms rule d)) pairs₀ pairs₁ values₀ values₁ a
+      → MapWritten e (wholeMap modulus slots (2 ^ logD) rule) pairs₀ pairs₁ values₀ values₁ a
   rule-written {e} {pairs₀} {pairs₁} {values₀} {values₁} {a} w = subst (λ ds. MapWritten e ds pairs₀ pairs₁ values₀ values₁ a) (sym whole) w
 
   pub is-ruled : Ruled slots d rule
@@ -100,9 +101,9 @@ module _ {slots logD count r d : ℕ} (b : List ℕ) (t : TilesJudged slots logD
       }
 
 pub product-refused : {slots logD count r : ℕ} {b : List ℕ} (p : Product) (pairs values : List ℕ) → ProductJudged slots logD count b r → (r ≡ 0 → ⊥)
-    → MapWritten (productRefusal slots logD count p b pairs values) (productMap slots (2 ^ logD) count p b) pairs pairs values values (Refused r)
+    → MapWritten (productRefusal slots logD count p b pairs values) (productMap modulus slots (2 ^ logD) count p b) pairs pairs values values (Refused r)
 product-refused {slots} {logD} {count} {r} {b} p pairs values j n =
-    written-refused (j .answer ∙ sym (first-refused (productRefusals slots logD count b) ((noRoom (productMap slots (2 ^ logD) count p b) pairs values, 12) ∷ []) (λ h. n (j .answer ∙ h)))) n
+    written-refused (j .answer ∙ sym (first-refused (productRefusals slots logD count b) (mapRoom (productMap modulus slots (2 ^ logD) count p b) pairs values) (λ h. n (j .answer ∙ h)))) n
 
 pub product-tiles : {slots logD count r d : ℕ} {b : List ℕ} → ProductJudged slots logD count b r → r ≡ 0 → d ≡ 2 ^ logD → Tiling slots d count
 product-tiles j z s = rw s (j .tiles z)
@@ -120,22 +121,22 @@ module _ {slots logD count r d period : ℕ} {b : List ℕ} (p : Product) (j : P
   pub product-period : firstOf (periodRefusals slots period) ≡ 0
   product-period = period-accepted slots period (round-tiles .slots-some) (round-tiles .small) (its-period .some) (dvd-trans period (its-period .divide) (round-tiles .divide))
 
-  whole-product : productMap slots (2 ^ logD) count p b ≡ slotMap slots period (plainRows p d b period)
+  whole-product : productMap modulus slots (2 ^ logD) count p b ≡ slotMap modulus slots period (plainRows p d b period)
   unfolding productMap
   whole-product =
       rw (← s, ← q)
-      (ap (slotMap slots period) (sym (rows-same round-tiles its-period p b)))
+      (ap (slotMap modulus slots period) (sym (rows-same round-tiles its-period p b)))
 
-  pub product-room : (pairs values : List ℕ) → productRefusal slots logD count p b pairs values ≡ pick (noRoom (slotMap slots period (plainRows p d b period)) pairs values) 12 0
+  pub product-room : (pairs values : List ℕ) → productRefusal slots logD count p b pairs values ≡ firstOf (mapRoom (slotMap modulus slots period (plainRows p d b period)) pairs values)
   product-room pairs values =
-      first-later (productRefusals slots logD count b) ((noRoom (productMap slots (2 ^ logD) count p b) pairs values, 12) ∷ []) (suc-ne-zero 0, (suc-ne-zero 4, (suc-ne-zero 6, tt))) (sym (j .answer) ∙ z)
+      first-later (productRefusals slots logD count b) (mapRoom (productMap modulus slots (2 ^ logD) count p b) pairs values) (suc-ne-zero 0, (suc-ne-zero 4, (suc-ne-zero 6, tt))) (sym (j .answer) ∙ z)
       ∙ rw whole-product
 
-  pub product-written : {e : ℕ} {pairs₀ pairs₁ values₀ values₁ : List ℕ} {a : Answer} → MapWritten e (slotMap slots period (plainRows p d b period)) pairs₀ pairs₁ values₀ values₁ a
-      → MapWritten e (productMap slots (2 ^ logD) count p b) pairs₀ pairs₁ values₀ values₁ a
+  pub product-written : {e : ℕ} {pairs₀ pairs₁ values₀ values₁ : List ℕ} {a : Answer} → MapWritten e (slotMap modulus slots period (plainRows p d b period)) pairs₀ pairs₁ values₀ values₁ a
+      → MapWritten e (productMap modulus slots (2 ^ logD) count p b) pairs₀ pairs₁ values₀ values₁ a
   product-written {e} {pairs₀} {pairs₁} {values₀} {values₁} {a} w = subst (λ ds. MapWritten e ds pairs₀ pairs₁ values₀ values₁ a) (sym whole-product) w
 
-  pub product-summing : {places values : List ℕ} → PlacesOf slots (plainRows p d b period) places → SumsOf slots period (plainRows p d b period) [] values values
+  pub product-summing : {places values : List ℕ} → PlacesOf slots (plainRows p d b period) places → SumsOf modulus slots period (plainRows p d b period) [] values values
       → SumsUpTo p slots d period 0 b places values values
   product-summing a w =
       record {

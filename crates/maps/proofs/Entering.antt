@@ -8,23 +8,26 @@ use native.Mathlib.Nat.{suc-ne-zero, mod-lt, mod-eq-of-lt, mod-eq-sub-mod, mul-l
 use native.Mathlib.Omega.{arith}
 use borrow.Author.Tests.{eq-eqb, ltb-true, leb-true, lt-ltb, le-ltb}
 use lib.Dec.{ltb, leb}
+use lib.IntN.{pos, _-ℤ_}
 use lib.ListN.{length, getD, set}
 use Rattle.ring.specs.Slots.{modulus, addm}
 use Rattle.ring.specs.Lists.{join}
 use Rattle.ring.specs.Vectors.{tabulate}
 use Rattle.ring.specs.Searches.{only}
 use Rattle.ring.specs.Marks.{Unmarked}
+use Rattle.ring.specs.Residues.{residueOf}
+use Rattle.ring.specs.Laws.Residues.{residue-lt}
 use Rattle.ring.specs.Refusals.{pick, firstOf}
 use Rattle.diagonals.specs.SlotMaps.{Term, offsetOf, reached}
-use Rattle.diagonals.specs.SlotSteps.{Offset, OffsetOf, MarksOf, SumsOf}
+use Rattle.diagonals.specs.Building.{MarksOf, SumsOf}
 use Rattle.diagonals.specs.Laws.Terms.{rows-more, reached-row, marks-none, marks-more, entry-inside, sums-more}
 use Rattle.maps.specs.declared.rules.Rule.{Rule}
 use Rattle.maps.specs.declared.rules.Rule.the-variants.{Sigma, Tau, Transpose, RotateRows, RotateCols, RowsUpper, RowsLower, ColsLeft, ColsRight, RowsLeft, RowsRight}
 use Rattle.maps.specs.Entries.{Entry, place}
-use Rattle.maps.specs.Readings.{reading, reads, readTerms, shiftOf}
-use Rattle.maps.specs.TileSteps.{TilesJudged}
+use Rattle.maps.specs.Readings.{reading, reads, readTerms, ruleTerms, shiftOf}
+use Rattle.maps.specs.Steps.Tiles.{TilesJudged}
 use Rattle.maps.specs.Laws.Tiling.{tiling, tiles-first, tiles-later}
-use Rattle.maps.specs.ReadingSteps.{Within, EntryIs, ReadIs, ruleTerms, Ruled, RuleSumming, ruleRefusals, RuleJudged}
+use Rattle.maps.specs.Steps.Readings.{Within, EntryIs, ReadIs, Ruled, RuleSumming, ruleRefusals, RuleJudged}
 
 -- ---- below 2d
 
@@ -136,21 +139,12 @@ module _ {slots d : ℕ} {rule : Rule} (a : Ruled slots d rule) {t : ℕ} (l : t
     so-many : (n : ℕ) → n ≡ t + 1 → join (readTerms rule d) (tabulate n (λ u. u)) ≡ join (readTerms rule d) (tabulate t (λ u. u)) ++ map (one t) (only there j)
     so-many n e = rw (e, rows-more (readTerms rule d) t, row-terms)
 
-    output-inside : t < slots
-    output-inside = omega (arith, a .tiles .inside)
-
-    input-inside : j < slots
-    input-inside = omega (arith, a .tiles .inside, q .low)
-
-    module _ {o : ℕ} (f : OffsetOf slots t j o) where
-      pub reads-offset : Offset slots t j o
-      reads-offset = f .offset output-inside input-inside
-
+    module _ {o : ℕ} (f : o ≡ residueOf (pos j -ℤ pos t) slots) where
       pub reads-low : o < 65536
-      reads-low = omega (arith, reads-offset .low, a .tiles .small)
+      reads-low = omega (arith, f, residue-lt (pos j -ℤ pos t) slots (a .tiles .slots-some), a .tiles .small)
 
       reads-reached : there ≡ true → reached slots (ruleTerms rule d) o ≡ true
-      reads-reached h = reached-row (readTerms rule d) slots o (d * d) t l (rw (row-terms, h, eq-eqb (offsetOf slots (one t j)) o (sym (reads-offset .is))))
+      reads-reached h = reached-row (readTerms rule d) slots o (d * d) t l (rw (row-terms, h, eq-eqb (offsetOf slots (one t j)) o (sym f)))
 
 -- ---- marks
 
@@ -164,8 +158,8 @@ marking-none slots d rule u = record { room = omega arith; so-far = marks-none s
 
 module _ {slots d : ℕ} {rule : Rule} (a : Ruled slots d rule) {t : ℕ} (l : t < d * d) {there : Bool} {j : ℕ} (q : ReadIs rule d (t / d) (t % d) there j)
     {seen : List Bool} (s : MarkingReads slots d rule seen t) where
-  pub marking-yes : {o : ℕ} → OffsetOf slots t j o → there ≡ true → MarkingReads slots d rule (set seen o true) (t + 1)
-  marking-yes f h = record { room = omega arith; so-far = rw (so-many a l q (t + 1) refl, h) (marks-more (s .so-far) (a .tiles .small) (one t j) (reads-offset a l q f)) }
+  pub marking-yes : {o : ℕ} → o ≡ residueOf (pos j -ℤ pos t) slots → there ≡ true → MarkingReads slots d rule (set seen o true) (t + 1)
+  marking-yes f h = record { room = omega arith; so-far = rw (so-many a l q (t + 1) refl, h) (marks-more (s .so-far) (a .tiles .slots-some) (a .tiles .small) (one t j) f) }
 
   pub marking-no : there ≡ false → MarkingReads slots d rule seen (t + 1)
   marking-no h = record { room = omega arith; so-far = rw (so-many a l q (t + 1) refl, h, append-nil) (s .so-far) }
@@ -178,31 +172,31 @@ marking-done {d} {t} s h = let e : t ≡ d * d = omega (arith, s .room) in rw (�
 -- what the outputs before t read is added
 pub record AddingReads (slots d : ℕ) (rule : Rule) (old values : List ℕ) (t : ℕ) : Type 0 where
   pub room : t ≤ d * d
-  pub so-far : SumsOf slots (d * d) (ruleTerms rule d) (join (readTerms rule d) (tabulate t (λ u. u))) old values
+  pub so-far : SumsOf modulus slots (d * d) (ruleTerms rule d) (join (readTerms rule d) (tabulate t (λ u. u))) old values
 
 pub adding-none : {slots d : ℕ} {rule : Rule} {places values : List ℕ} → RuleSumming slots d rule places values → AddingReads slots d rule values values 0
 adding-none g = record { room = omega arith; so-far = g .zeros }
 
 module _ {slots d : ℕ} {rule : Rule} {places old values : List ℕ} (g : RuleSumming slots d rule places old) {t : ℕ} (l : t < d * d)
     {there : Bool} {j : ℕ} (q : ReadIs rule d (t / d) (t % d) there j) (s : AddingReads slots d rule old values t) where
-  module _ {o r : ℕ} (f : OffsetOf slots t j o) (h : there ≡ true) (e : r ≡ getD places o 0) where
+  module _ {o r : ℕ} (f : o ≡ residueOf (pos j -ℤ pos t) slots) (h : there ≡ true) (e : r ≡ getD places o 0) where
     pub reads-inside : r * (d * d) + t < length values
-    reads-inside = entry-inside (s .so-far) (g .placed) (one t j) (reads-offset (g .ruled) l q f) l (reads-reached (g .ruled) l q f h) e
+    reads-inside = entry-inside (s .so-far) (g .placed) (one t j) (g .ruled .tiles .slots-some) f l (reads-reached (g .ruled) l q f h) e
 
     pub adding-yes : {v : ℕ} → v ≡ addm modulus (getD values (r * (d * d) + t) 0) 1 → AddingReads slots d rule old (set values (r * (d * d) + t) v) (t + 1)
     adding-yes w =
         record {
           room = omega arith;
-          so-far = rw (so-many (g .ruled) l q (t + 1) refl, h) (sums-more (s .so-far) (g .placed) (one t j) (reads-offset (g .ruled) l q f) l (reads-reached (g .ruled) l q f h) e w);
+          so-far = rw (so-many (g .ruled) l q (t + 1) refl, h) (sums-more (s .so-far) (g .placed) (one t j) (g .ruled .tiles .slots-some) f l (reads-reached (g .ruled) l q f h) e w);
         }
 
   pub adding-no : there ≡ false → AddingReads slots d rule old values (t + 1)
   adding-no h = record { room = omega arith; so-far = rw (so-many (g .ruled) l q (t + 1) refl, h, append-nil) (s .so-far) }
 
-pub adding-done : {slots d : ℕ} {rule : Rule} {old values : List ℕ} {t : ℕ} → AddingReads slots d rule old values t → d * d ≤ t → SumsOf slots (d * d) (ruleTerms rule d) (ruleTerms rule d) old values
+pub adding-done : {slots d : ℕ} {rule : Rule} {old values : List ℕ} {t : ℕ} → AddingReads slots d rule old values t → d * d ≤ t → SumsOf modulus slots (d * d) (ruleTerms rule d) (ruleTerms rule d) old values
 adding-done {slots} {d} {rule} {old} {values} {t} s h =
     let e : t ≡ d * d = omega (arith, s .room) in
-    subst (λ (n : ℕ). SumsOf slots (d * d) (ruleTerms rule d) (join (readTerms rule d) (tabulate n (λ u. u))) old values) e (s .so-far)
+    subst (λ (n : ℕ). SumsOf modulus slots (d * d) (ruleTerms rule d) (join (readTerms rule d) (tabulate n (λ u. u))) old values) e (s .so-far)
 
 -- ---- the refusal
 

@@ -8,24 +8,27 @@ use native.Mathlib.Nat.{mod-lt, mod-add-mod, mod-eq-of-lt, div-lt-iff-lt-mul, mu
 use borrow.Author.Tests.{eq-eqb, ne-eqb}
 use lib.Dec.{eqb}
 use native.Mathlib.Omega.{arith}
+use lib.IntN.{pos, _-ℤ_}
 use lib.ListN.{length, getD, set}
 use Rattle.ring.specs.Slots.{modulus, addm}
 use Rattle.ring.specs.Vectors.{tabulate}
 use Rattle.ring.specs.Marks.{Unmarked}
+use Rattle.ring.specs.Residues.{residueOf}
+use Rattle.ring.specs.Laws.Residues.{residue-lt}
 use Rattle.ring.specs.Laws.Vectors.{length-tabulate, getD-tabulate, tabulate-cong, tabulate-more, map-tabulate}
 use Rattle.ring.specs.Lists.{join}
 use Rattle.ring.specs.Laws.Lists.{join-map}
 use Rattle.diagonals.specs.SlotMaps.{Term, offsetOf, reached}
-use Rattle.diagonals.specs.SlotSteps.{Offset, OffsetOf, MarksOf, SumsOf}
+use Rattle.diagonals.specs.Building.{MarksOf, SumsOf}
 use Rattle.diagonals.specs.Laws.SlotMaps.{reached-at}
 use Rattle.diagonals.specs.Laws.Terms.{rows-more, reached-row, marks-none, marks-more, entry-inside, sums-more, sums-self, sums-then}
 use Rattle.maps.specs.declared.rules.Product.{Product}
 use Rattle.maps.specs.declared.rules.Product.the-variants.{RightMul, LeftMul, RightJkls, LeftJkls}
 use Rattle.maps.specs.Entries.{place, slotOf}
 use Rattle.maps.specs.Sums.{factors, periodOf, sumTerm}
-use Rattle.maps.specs.TileSteps.{Tiling}
-use Rattle.maps.specs.ReadingSteps.{Within}
-use Rattle.maps.specs.SumSteps.{plainTerm, plainRow, plainRows, OutputIs, RowAt, SpotIs, SummandIs, RowMarked, SumsMarked, Outputs, SumsUpTo}
+use Rattle.maps.specs.Steps.Tiles.{Tiling}
+use Rattle.maps.specs.Steps.Readings.{Within}
+use Rattle.maps.specs.Steps.Sums.{plainTerm, plainRow, plainRows, OutputIs, RowAt, SpotIs, SummandIs, RowMarked, SumsMarked, Outputs, SumsUpTo}
 use Rattle.maps.specs.Laws.Tiling.{some-squared}
 use Rattle.maps.proofs.Entering.{place-low}
 
@@ -69,6 +72,9 @@ row-at {slots} {d} {period} {t} a l o =
     })
 
 module _ {slots d t base row col : ℕ} (a : RowAt slots d t base row col) where
+  some : 0 < slots
+  some = omega (arith, a .low)
+
   pub base-low : base ≤ 65536
   base-low = omega (arith, a .inside, a .small)
 
@@ -77,12 +83,8 @@ module _ {slots d t base row col : ℕ} (a : RowAt slots d t base row col) where
     plain-is : (b : List ℕ) → plainTerm p d b t l ≡ record { i = t; j = j; w = getD b at 0 }
     plain-is b = rw (m .input, m .public, a .output .base-is, a .output .row-is, a .output .col-is)
 
-    module _ {o : ℕ} (f : OffsetOf slots t j o) where
-      summand-offset : Offset slots t j o
-      summand-offset = f .offset (a .low) (omega (arith, m .input-low, a .inside))
-
-      pub summand-low : o < 65536
-      summand-low = omega (arith, summand-offset .low, a .small)
+    pub summand-low : {o : ℕ} → o ≡ residueOf (pos j -ℤ pos t) slots → o < 65536
+    summand-low f = omega (arith, f, residue-lt (pos j -ℤ pos t) slots some, a .small)
 
 -- ---- marks of one output
 
@@ -98,13 +100,13 @@ terms-more : (p : Product) (d t l : ℕ) (b : List ℕ) (ts : List Term) → ts 
 terms-more p d t l b ts = rw (tabulate-more l (plainTerm p d b t)) (sym (append-assoc ts (tabulate l (plainTerm p d b t)) (plainTerm p d b t l ∷ [])))
 
 pub row-more : {p : Product} {slots d t base row col l j at o : ℕ} {old seen : List Bool} → RowAt slots d t base row col → MarkingRow p slots d t old seen l → l < d
-    → SummandIs p d base row col l j at → OffsetOf slots t j o → MarkingRow p slots d t old (set seen o true) (l + 1)
+    → SummandIs p d base row col l j at → o ≡ residueOf (pos j -ℤ pos t) slots → MarkingRow p slots d t old (set seen o true) (l + 1)
 row-more {p} {slots} {d} {t} {base} {row} {col} {l} {j} {at} {o} {old} {seen} a s h m f =
     record {
       room = omega arith;
       so-far = λ b ts q.
           subst (λ us. MarksOf slots us (set seen o true)) (sym (terms-more p d t l b ts ∙ ap (λ (u : Term). (ts ++ tabulate l (plainTerm p d b t)) ++ (u ∷ [])) (plain-is a m b)))
-          (marks-more (s .so-far b ts q) (a .small) (record { i = t; j = j; w = getD b at 0 }) (summand-offset a m f));
+          (marks-more (s .so-far b ts q) (some a) (a .small) (record { i = t; j = j; w = getD b at 0 }) f);
     }
 
 pub row-done : {p : Product} {slots d t l : ℕ} {old seen : List Bool} → MarkingRow p slots d t old seen l → d ≤ l → RowMarked p slots d t old seen
@@ -140,11 +142,11 @@ none = record { i = 0; j = 0; w = 0 }
 
 pub record AddingRow (p : Product) (slots d period t : ℕ) (b old values : List ℕ) (l : ℕ) : Type 0 where
   pub room : l ≤ d
-  pub so-far : SumsOf slots period (plainRows p d b period) (plainRows p d b t ++ tabulate l (plainTerm p d b t)) old values
+  pub so-far : SumsOf modulus slots period (plainRows p d b period) (plainRows p d b t ++ tabulate l (plainTerm p d b t)) old values
 
 pub adding-none : {p : Product} {slots d period t : ℕ} {b places values : List ℕ} → SumsUpTo p slots d period t b places values values → AddingRow p slots d period t b values values 0
 adding-none {p} {slots} {d} {period} {t} {b} {places} {values} g =
-    record { room = omega arith; so-far = subst (λ us. SumsOf slots period (plainRows p d b period) us values values) (sym (append-nil (plainRows p d b t))) (g .sums) }
+    record { room = omega arith; so-far = subst (λ us. SumsOf modulus slots period (plainRows p d b period) us values values) (sym (append-nil (plainRows p d b t))) (g .sums) }
 
 module _ {p : Product} {slots d period t base row col : ℕ} {b places old values : List ℕ} (a : RowAt slots d t base row col) (h : t < period) (g : SumsUpTo p slots d period t b places old old)
     {l j at : ℕ} (s : AddingRow p slots d period t b old values l) (k : l < d) (m : SummandIs p d base row col l j at) where
@@ -153,7 +155,7 @@ module _ {p : Product} {slots d period t base row col : ℕ} {b places old value
       let e : base + d * d ≤ length b = rw (a .output .base-is) (g .matrices t h) in
       omega (arith, e, m .public-low)
 
-  module _ {o r : ℕ} (f : OffsetOf slots t j o) (e : r ≡ getD places o 0) where
+  module _ {o r : ℕ} (f : o ≡ residueOf (pos j -ℤ pos t) slots) (e : r ≡ getD places o 0) where
     abbrev here : Term
     here = record { i = t; j = j; w = getD b at 0 }
 
@@ -163,27 +165,27 @@ module _ {p : Product} {slots d period t base row col : ℕ} {b places old value
     is-reached : reached slots (plainRows p d b period) o ≡ true
     is-reached =
         reached-row (plainRow p d b) slots o period t h
-        (ap (λ (x : ℕ). reached slots (plainRow p d b t) x) (summand-offset a m f .is ∙ ap (λ (u : Term). offsetOf slots u) (sym in-row))
+        (ap (λ (x : ℕ). reached slots (plainRow p d b t) x) (f ∙ ap (λ (u : Term). offsetOf slots u) (sym in-row))
         ∙ reached-at slots (plainRow p d b t) l none (rw length-tabulate k))
 
     pub sum-inside : r * period + t < length values
-    sum-inside = entry-inside (s .so-far) (g .placed) here (summand-offset a m f) h is-reached e
+    sum-inside = entry-inside (s .so-far) (g .placed) here (some a) f h is-reached e
 
     pub adding-more : {v : ℕ} → v ≡ addm modulus (getD values (r * period + t) 0) (getD b at 0) → AddingRow p slots d period t b old (set values (r * period + t) v) (l + 1)
     adding-more {v} w =
         record {
           room = omega arith;
           so-far =
-              subst (λ us. SumsOf slots period (plainRows p d b period) us old (set values (r * period + t) v))
+              subst (λ us. SumsOf modulus slots period (plainRows p d b period) us old (set values (r * period + t) v))
               (sym (terms-more p d t l b (plainRows p d b t) ∙ ap (λ (u : Term). (plainRows p d b t ++ tabulate l (plainTerm p d b t)) ++ (u ∷ [])) (plain-is a m b)))
-              (sums-more (s .so-far) (g .placed) here (summand-offset a m f) h is-reached e w);
+              (sums-more (s .so-far) (g .placed) here (some a) f h is-reached e w);
         }
 
 pub adding-done : {p : Product} {slots d period t l : ℕ} {b old values : List ℕ} → AddingRow p slots d period t b old values l → d ≤ l
-    → SumsOf slots period (plainRows p d b period) (plainRows p d b (t + 1)) old values
+    → SumsOf modulus slots period (plainRows p d b period) (plainRows p d b (t + 1)) old values
 adding-done {p} {slots} {d} {period} {t} {l} {b} {old} {values} s h =
     let e : l ≡ d = omega (arith, s .room) in
-    subst (λ us. SumsOf slots period (plainRows p d b period) us old values)
+    subst (λ us. SumsOf modulus slots period (plainRows p d b period) us old values)
     (ap (λ (n : ℕ). plainRows p d b t ++ tabulate n (plainTerm p d b t)) e ∙ sym (rows-more (plainRow p d b) t))
     (s .so-far)
 
@@ -198,7 +200,7 @@ module _ {p : Product} {slots d period : ℕ} {b places old values : List ℕ} {
   pub sums-now : SumsUpTo p slots d period i b places values values
   sums-now = rw (o .i-is) (record { outputs = s .up .outputs; matrices = s .up .matrices; placed = s .up .placed; sums = sums-self (s .up .sums) })
 
-  pub sums-row : {new : List ℕ} → t < period → SumsOf slots period (plainRows p d b period) (plainRows p d b (i + 1)) values new → AddingSums p slots d period b places old new (t + 1)
+  pub sums-row : {new : List ℕ} → t < period → SumsOf modulus slots period (plainRows p d b period) (plainRows p d b (i + 1)) values new → AddingSums p slots d period b places old new (t + 1)
   sums-row {new} l n =
       record {
         room = omega arith;
@@ -206,15 +208,15 @@ module _ {p : Product} {slots d period : ℕ} {b places old values : List ℕ} {
           outputs = s .up .outputs;
           matrices = s .up .matrices;
           placed = s .up .placed;
-          sums = sums-then (s .up .sums) (subst (λ (x : ℕ). SumsOf slots period (plainRows p d b period) (plainRows p d b (x + 1)) values new) (o .i-is) n);
+          sums = sums-then (s .up .sums) (subst (λ (x : ℕ). SumsOf modulus slots period (plainRows p d b period) (plainRows p d b (x + 1)) values new) (o .i-is) n);
         };
       }
 
 pub all-added : {p : Product} {slots d period t : ℕ} {b places old values : List ℕ} → AddingSums p slots d period b places old values t → period ≤ t
-    → SumsOf slots period (plainRows p d b period) (plainRows p d b period) old values
+    → SumsOf modulus slots period (plainRows p d b period) (plainRows p d b period) old values
 all-added {p} {slots} {d} {period} {t} {b} {places} {old} {values} s h =
     let e : t ≡ period = omega (arith, s .room) in
-    subst (λ (n : ℕ). SumsOf slots period (plainRows p d b period) (plainRows p d b n) old values) e (s .up .sums)
+    subst (λ (n : ℕ). SumsOf modulus slots period (plainRows p d b period) (plainRows p d b n) old values) e (s .up .sums)
 
 -- ---- the period
 

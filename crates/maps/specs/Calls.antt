@@ -7,16 +7,16 @@ use mathlib.Core.List.{List, [], _∷_, _++_}
 use lib.Dec.{eqb, ltb}
 use lib.IntN.{ℤ}
 use lib.ListN.{length, take, drop}
+use Rattle.ring.specs.Slots.{modulus}
 use Rattle.ring.specs.Vectors.{inFront}
 use Rattle.ring.specs.Divisors.{divides}
 use Rattle.ring.specs.Refusals.{firstOf, onAccept, outside, noPeriod}
 use Rattle.ring.specs.Answers.{answered}
 use Rattle.ring.specs.declared.Answer.{Answer}
-use Rattle.diagonals.specs.Maps.{Diagonal}
-use Rattle.diagonals.specs.Setting.{pairWords, valueWords}
+use Rattle.diagonals.specs.Maps.{Diagonal, pairWords, valueWords}
 use Rattle.diagonals.specs.SlotMaps.{termsOf, inRange, slotMap}
 use Rattle.diagonals.specs.Shrinking.{shrunk}
-use Rattle.diagonals.specs.Calls.{noRoom}
+use Rattle.diagonals.specs.Calls.{mapRoom, MapWritten}
 use Rattle.maps.specs.declared.rules.Rule.{Rule}
 use Rattle.maps.specs.declared.rules.Product.{Product}
 use Rattle.maps.specs.Readings.{wholeMap, shiftOf, rotateRowsRep}
@@ -49,16 +49,15 @@ ruleRefusal slots logD rule pairs values =
     firstOf
     (tileRefusals slots logD 1
     ++ (ltb (2 ^ logD) (shiftOf rule), 6)
-    ∷ (noRoom (wholeMap slots (2 ^ logD) rule) pairs values, 12)
-    ∷ [])
+    ∷ mapRoom (wholeMap modulus slots (2 ^ logD) rule) pairs values)
 
 abbrev pub RuleWritten : ℕ → ℕ → Rule → List ℕ → List ℕ → List ℕ → List ℕ → Answer → Type 0
 RuleWritten slots logD rule pairs₀ pairs₁ values₀ values₁ r =
-    ShrunkWritten (ruleRefusal slots logD rule pairs₀ values₀) (wholeMap slots (2 ^ logD) rule) pairs₀ pairs₁ values₀ values₁ r
+    ShrunkWritten (ruleRefusal slots logD rule pairs₀ values₀) (wholeMap modulus slots (2 ^ logD) rule) pairs₀ pairs₁ values₀ values₁ r
 
 -- `per_matrix_map`: slot-map terms at period d²
 abbrev pub matrixTermsMap : ℕ → ℕ → List ℕ → List ℕ → List ℕ → List Diagonal
-matrixTermsMap slots logD is js ws = slotMap slots (2 ^ logD * 2 ^ logD) (termsOf is js ws)
+matrixTermsMap slots logD is js ws = slotMap modulus slots (2 ^ logD * 2 ^ logD) (termsOf is js ws)
 
 abbrev pub perMatrixRefusal : ℕ → ℕ → List ℕ → List ℕ → List ℕ → List ℕ → List ℕ → ℕ
 perMatrixRefusal slots logD is js ws pairs values =
@@ -66,8 +65,11 @@ perMatrixRefusal slots logD is js ws pairs values =
     (tileRefusals slots logD 1
     ++ (not (eqb (length is) (length js)) || not (eqb (length is) (length ws)), 7)
     ∷ (not (inRange slots (2 ^ logD * 2 ^ logD) is js), 8)
-    ∷ (noRoom (matrixTermsMap slots logD is js ws) pairs values, 12)
-    ∷ [])
+    ∷ mapRoom (matrixTermsMap slots logD is js ws) pairs values)
+
+abbrev pub PerMatrixWritten : ℕ → ℕ → List ℕ → List ℕ → List ℕ → List ℕ → List ℕ → List ℕ → List ℕ → Answer → Type 0
+PerMatrixWritten slots logD is js ws pairs₀ pairs₁ values₀ values₁ r =
+    ShrunkWritten (perMatrixRefusal slots logD is js ws pairs₀ values₀) (matrixTermsMap slots logD is js ws) pairs₀ pairs₁ values₀ values₁ r
 
 -- ---- products by public matrices
 
@@ -80,16 +82,27 @@ productRefusal slots logD count p b pairs values =
     firstOf
     (tileRefusals slots logD count
     ++ (noMatrices logD count b, 7)
-    ∷ (noRoom (productMap slots (2 ^ logD) count p b) pairs values, 12)
-    ∷ [])
+    ∷ mapRoom (productMap modulus slots (2 ^ logD) count p b) pairs values)
 
+abbrev pub ProductWritten : ℕ → ℕ → ℕ → Product → List ℕ → List ℕ → List ℕ → List ℕ → List ℕ → Answer → Type 0
+ProductWritten slots logD count p b pairs₀ pairs₁ values₀ values₁ r =
+    MapWritten (productRefusal slots logD count p b pairs₀ values₀) (productMap modulus slots (2 ^ logD) count p b) pairs₀ pairs₁ values₀ values₁ r
+
+-- `left_mul_rep`
 abbrev pub leftMulRepRefusal : ℕ → ℕ → List ℕ → List ℕ → List ℕ → ℕ
 leftMulRepRefusal slots logD b pairs values =
-    firstOf (tileRefusals slots logD 1 ++ (noMatrices logD 1 b, 7) ∷ (noRoom (leftMulRep (2 ^ logD) b) pairs values, 12) ∷ [])
+    firstOf (tileRefusals slots logD 1 ++ (noMatrices logD 1 b, 7) ∷ mapRoom (leftMulRep (2 ^ logD) b) pairs values)
+
+abbrev pub LeftMulRepWritten : ℕ → ℕ → List ℕ → List ℕ → List ℕ → List ℕ → List ℕ → Answer → Type 0
+LeftMulRepWritten slots logD b pairs₀ pairs₁ values₀ values₁ r =
+    MapWritten (leftMulRepRefusal slots logD b pairs₀ values₀) (leftMulRep (2 ^ logD) b) pairs₀ pairs₁ values₀ values₁ r
 
 -- ---- maps of known diagonals: `tau_rep`, `first_row`, `first_col`
 abbrev pub tiledRefusal : ℕ → ℕ → List Diagonal → List ℕ → List ℕ → ℕ
-tiledRefusal slots logD ds pairs values = firstOf (tileRefusals slots logD 1 ++ (noRoom ds pairs values, 12) ∷ [])
+tiledRefusal slots logD ds pairs values = firstOf (tileRefusals slots logD 1 ++ mapRoom ds pairs values)
+
+abbrev pub TiledWritten : ℕ → ℕ → List Diagonal → List ℕ → List ℕ → List ℕ → List ℕ → Answer → Type 0
+TiledWritten slots logD ds pairs₀ pairs₁ values₀ values₁ r = MapWritten (tiledRefusal slots logD ds pairs₀ values₀) ds pairs₀ pairs₁ values₀ values₁ r
 
 -- `rotate_rows_rep`: the shift isn't in 1..d-1
 abbrev pub rowsRepRefusal : ℕ → ℕ → ℕ → List ℕ → List ℕ → ℕ
@@ -97,13 +110,20 @@ rowsRepRefusal slots logD k pairs values =
     firstOf
     (tileRefusals slots logD 1
     ++ (ltb k 1 || not (ltb k (2 ^ logD)), 6)
-    ∷ (noRoom (rotateRowsRep slots (2 ^ logD) k) pairs values, 12)
-    ∷ [])
+    ∷ mapRoom (rotateRowsRep slots (2 ^ logD) k) pairs values)
+
+abbrev pub RowsRepWritten : ℕ → ℕ → ℕ → List ℕ → List ℕ → List ℕ → List ℕ → Answer → Type 0
+RowsRepWritten slots logD k pairs₀ pairs₁ values₀ values₁ r =
+    MapWritten (rowsRepRefusal slots logD k pairs₀ values₀) (rotateRowsRep slots (2 ^ logD) k) pairs₀ pairs₁ values₀ values₁ r
 
 -- `slot_product`
 abbrev pub slotProductRefusal : ℕ → List ℕ → ℤ → List ℕ → List ℕ → ℕ
 slotProductRefusal slots v rotation pairs values =
-    firstOf ((outside slots, 1) ∷ (noPeriod slots (length v), 4) ∷ (noRoom (slotProduct v rotation) pairs values, 12) ∷ [])
+    firstOf ((outside slots, 1) ∷ (noPeriod slots (length v), 4) ∷ mapRoom (slotProduct v rotation) pairs values)
+
+abbrev pub SlotProductWritten : ℕ → List ℕ → ℤ → List ℕ → List ℕ → List ℕ → List ℕ → Answer → Type 0
+SlotProductWritten slots v rotation pairs₀ pairs₁ values₀ values₁ r =
+    MapWritten (slotProductRefusal slots v rotation pairs₀ values₀) (slotProduct v rotation) pairs₀ pairs₁ values₀ values₁ r
 
 -- `tau_values`, `sigma_values`: log_d is above 8, count is 0, or count·d² exceeds 65,536
 abbrev pub noValues : ℕ → ℕ → Bool

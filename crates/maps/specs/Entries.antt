@@ -1,7 +1,7 @@
 -- Document 01, "Matrix maps": matrices of d by d entries in slots. A matrix slot is d² slots, row after row; matrix slot s
 -- of `count` public matrices has the matrix s mod count.
 -- Assumes nothing.
-use Prim.Native.Nat.{ℕ, _+_, _*_, _/_, _%_}
+use Prim.Native.Nat.{ℕ, _+_, _*_, _/_, _%_, _<_}
 use mathlib.Core.List.{List}
 use lib.ListN.{getD}
 
@@ -9,6 +9,11 @@ use lib.ListN.{getD}
 pub record Entry : Type 0 where
   pub row : ℕ
   pub col : ℕ
+
+-- an entry of a d by d matrix
+pub record InMatrix (d : ℕ) (e : Entry) : Type 0 where
+  pub row-low : e .row < d
+  pub col-low : e .col < d
 
 -- where it stands in its matrix slot
 abbrev pub place : ℕ → Entry → ℕ

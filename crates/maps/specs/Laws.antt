@@ -12,3 +12,6 @@ pub mod Skewing
 pub mod Blocks
 pub mod Narrow
 pub mod SharedTerms
+pub mod Offsets
+pub mod Counts
+pub mod Leading

@@ -1,12 +1,15 @@
 -- Document 01, "Matrix maps": the maps that read one entry or none, by their JKLS formulas.
 -- Assumes nothing.
-use Prim.Native.Nat.{ℕ, _+_, _*_, _-_, _%_}
+use Prim.Native.Nat.{ℕ, _+_, _*_, _-_, _%_, _<_}
+use mathlib.Core.Path.{_≡_}
 use mathlib.Core.Bool.{Bool, true, false, cond}
 use mathlib.Core.List.{List, [], _∷_, map}
 use lib.Dec.{leb, ltb, eqb}
+use lib.ListN.{getD}
 use Rattle.ring.specs.Lists.{join}
 use Rattle.ring.specs.Vectors.{tabulate}
 use Rattle.diagonals.specs.Maps.{Diagonal}
+use Rattle.diagonals.specs.Products.{product}
 use Rattle.diagonals.specs.SlotMaps.{Term, slotMap}
 use Rattle.diagonals.specs.Shrinking.{shrunk}
 use Rattle.maps.specs.declared.rules.Rule.{Rule}
@@ -36,13 +39,21 @@ reads (RowsRight k) d r c = reading (leb d (c + k)) ((r + k) % d) c
 abbrev pub readTerms : Rule → ℕ → ℕ → List Term
 readTerms rule d t = map (λ e. record { i = t; j = place d e; w = 1 }) (reads rule d (entryOf d t .row) (entryOf d t .col))
 
+-- those of all outputs
+abbrev pub ruleTerms : Rule → ℕ → List Term
+ruleTerms rule d = join (readTerms rule d) (tabulate (d * d) (λ t. t))
+
 -- the map before it shrinks: stored at d²
-unfoldable pub wholeMap : ℕ → ℕ → Rule → List Diagonal
-wholeMap slots d rule = slotMap slots (d * d) (join (readTerms rule d) (tabulate (d * d) (λ t. t)))
+unfoldable pub wholeMap : ℕ → ℕ → ℕ → Rule → List Diagonal
+wholeMap m slots d rule = slotMap m slots (d * d) (ruleTerms rule d)
 
 -- every diagonal stored at the smallest period that holds them all
-unfoldable pub ruleMap : ℕ → ℕ → Rule → List Diagonal
-ruleMap slots d rule = shrunk (wholeMap slots d rule)
+unfoldable pub ruleMap : ℕ → ℕ → ℕ → Rule → List Diagonal
+ruleMap m slots d rule = shrunk (wholeMap m slots d rule)
+
+-- the vector that it gives
+abbrev pub after : ℕ → ℕ → ℕ → Rule → List ℕ → List ℕ
+after m slots d rule a = tabulate slots (product m slots (ruleMap m slots d rule) a)
 
 -- the shift that a rule has; 0 of the others
 abbrev pub shiftOf : Rule → ℕ
@@ -59,6 +70,10 @@ shiftOf (RowsLeft k) = k
 shiftOf (RowsRight k) = k
 
 -- ---- on replicated inputs
+
+-- every matrix slot of the input is matrix slot 0
+abbrev pub Replicated : ℕ → ℕ → List ℕ → Type 0
+Replicated slots d input = (i : ℕ) → i < slots → getD input i 0 ≡ getD input (i % (d * d)) 0
 
 -- `tau_rep`: a diagonal at each c·d, the mask of column c, stored at d
 unfoldable pub tauRep : ℕ → List Diagonal

@@ -4,13 +4,14 @@ use Prim.Native.Nat.{ℕ, _+_, _*_, _/_, _%_}
 use mathlib.Core.Bool.{cond}
 use mathlib.Core.List.{List}
 use lib.Dec.{eqb}
-use Rattle.ring.specs.Lists.{join}
+use Rattle.ring.specs.Slots.{mulm}
+use Rattle.ring.specs.Lists.{sumBy, join}
 use Rattle.ring.specs.Vectors.{tabulate}
 use Rattle.diagonals.specs.Maps.{Diagonal}
 use Rattle.diagonals.specs.SlotMaps.{Term, slotMap}
 use Rattle.maps.specs.declared.rules.Product.{Product}
 use Rattle.maps.specs.declared.rules.Product.the-variants.{RightMul, LeftMul, RightJkls, LeftJkls}
-use Rattle.maps.specs.Entries.{Entry, place, entryOf, slotOf, publicAt}
+use Rattle.maps.specs.Entries.{Entry, place, entryOf, slotOf, entryAt, publicAt}
 
 abbrev at : ℕ → ℕ → Entry
 at r c = record { row = r; col = c }
@@ -39,10 +40,21 @@ sumTerm p d count b t l =
     let f = factors p d (entryOf d t .row) (entryOf d t .col) l in
     record { i = t; j = slotOf d t * (d * d) + place d (f .input); w = publicAt d count b (slotOf d t) (f .public) }
 
+-- those of output t
+abbrev pub outputTerms : Product → ℕ → ℕ → List ℕ → ℕ → List Term
+outputTerms p d count b t = tabulate d (sumTerm p d count b t)
+
 -- every diagonal offset that a summand reaches is stored, zero or not, at the period
-unfoldable pub productMap : ℕ → ℕ → ℕ → Product → List ℕ → List Diagonal
-productMap slots d count p b =
-    slotMap slots (periodOf p d count) (join (λ t. tabulate d (sumTerm p d count b t)) (tabulate (periodOf p d count) (λ t. t)))
+unfoldable pub productMap : ℕ → ℕ → ℕ → ℕ → Product → List ℕ → List Diagonal
+productMap m slots d count p b = slotMap m slots (periodOf p d count) (join (outputTerms p d count b) (tabulate (periodOf p d count) (λ t. t)))
+
+-- the formula modulo m, for entry e of matrix slot s: the sum of the d products
+abbrev pub summand : ℕ → Product → ℕ → ℕ → List ℕ → List ℕ → ℕ → Entry → ℕ → ℕ
+summand m p d count b input s e l =
+    mulm m (publicAt d count b s (factors p d (e .row) (e .col) l .public)) (entryAt d input s (factors p d (e .row) (e .col) l .input))
+
+abbrev pub formula : ℕ → Product → ℕ → ℕ → List ℕ → List ℕ → ℕ → Entry → ℕ
+formula m p d count b input s e = sumBy m (summand m p d count b input s e) (tabulate d (λ l. l))
 
 -- `left_mul_rep` of one public matrix: a diagonal at each j·d, its entry at (r, c) b(r, (r + j) mod d), stored at d²
 unfoldable pub leftMulRep : ℕ → List ℕ → List Diagonal

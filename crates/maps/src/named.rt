@@ -1,5 +1,4 @@
 // The maps that read one entry or none, under their names in poulpy. Each is one call of `rule_map`.
-ghost use mathlib.Core.Path.{_≡_};
 ghost use Rattle.maps.specs.declared.rules.Rule.the-variants.{Sigma, Tau, Transpose, RotateRows, RotateCols, RowsUpper, RowsLower, ColsLeft, ColsRight, RowsLeft, RowsRight};
 ghost use Rattle.maps.specs.Calls.{RuleWritten};
 use crate::readings::rule_map;

@@ -1,12 +1,13 @@
 // The maps that read one entry or none.
 ghost use mathlib.Core.Path.{_≡_};
 ghost use Prim.Native.Nat.{_*_, _%_, _^_, _≤_, _<_};
+ghost use Rattle.ring.specs.Slots.{modulus};
 ghost use Rattle.ring.specs.Marks.{Unmarked};
 ghost use Rattle.diagonals.specs.Calls.{MapWritten};
-ghost use Rattle.diagonals.specs.SlotSteps.{MarksOf, SumsOf};
-ghost use Rattle.maps.specs.Readings.{shiftOf, wholeMap};
+ghost use Rattle.diagonals.specs.Building.{MarksOf, SumsOf};
+ghost use Rattle.maps.specs.Readings.{shiftOf, ruleTerms, wholeMap};
 ghost use Rattle.maps.specs.Calls.{ruleRefusal, RuleWritten};
-ghost use Rattle.maps.specs.ReadingSteps.{Within, EntryIs, ReadIs, ruleTerms, Ruled, RuleSumming, RuleJudged};
+ghost use Rattle.maps.specs.Steps.Readings.{Within, EntryIs, ReadIs, Ruled, RuleSumming, RuleJudged};
 use crate::rules::Rule;
 
 // x mod d for x below 2d.
@@ -94,7 +95,7 @@ fn mark_reads(rule: Rule, slots: usize, d: usize, seen: &mut [bool; 65536])
 
 fn add_reads(rule: Rule, slots: usize, d: usize, places: &[u32; 65536], values: &mut [u64])
     requires { ⌜ RuleSumming slots d rule (now places) (now values) ⌝ }
-    ensures { λ _. ⌜ SumsOf slots (d * d) (ruleTerms rule d) (ruleTerms rule d) (now (values .entry)) (now (values .exit)) ⌝ }
+    ensures { λ _. ⌜ SumsOf modulus slots (d * d) (ruleTerms rule d) (ruleTerms rule d) (now (values .entry)) (now (values .exit)) ⌝ }
 {
     let period = d * d;
     for t in 0..period {
@@ -129,7 +130,7 @@ fn build_rule(
     pairs: &mut [u32],
     values: &mut [u64],
 ) -> ring::Answer
-    ensures { λ r. ⌜ MapWritten (ruleRefusal slots «log_d» rule (now (pairs .entry)) (now (values .entry))) (wholeMap slots (2 ^ «log_d») rule) (now (pairs .entry)) (now (pairs .exit)) (now (values .entry)) (now (values .exit)) r ⌝ }
+    ensures { λ r. ⌜ MapWritten (ruleRefusal slots «log_d» rule (now (pairs .entry)) (now (values .entry))) (wholeMap modulus slots (2 ^ «log_d») rule) (now (pairs .entry)) (now (pairs .exit)) (now (values .entry)) (now (values .exit)) r ⌝ }
 {
     let code = rule_refusal(rule, slots, log_d);
     if code != 0 {
@@ -139,18 +140,13 @@ fn build_rule(
     let mut seen = [false; 65536];
     mark_reads(rule, slots, d, &mut seen);
     let mut places = [0u32; 65536];
-    let ring::Answer::Is(count) = diagonals::zero_map(
-        slots,
-        d * d,
-        &seen,
-        &mut places,
-        pairs,
-        values,
-    ) else {
-        return ring::Answer::Refused(12);
-    };
-    add_reads(rule, slots, d, &places, values);
-    ring::Answer::Is(count)
+    match diagonals::zero_map(slots, d * d, &seen, &mut places, pairs, values) {
+        ring::Answer::Refused(e) => ring::Answer::Refused(e),
+        ring::Answer::Is(count) => {
+            add_reads(rule, slots, d, &places, values);
+            ring::Answer::Is(count)
+        }
+    }
 }
 
 // The map of a rule, shrunk: pairs and values need room for it before that.

@@ -2,25 +2,22 @@
 // a block.
 ghost use mathlib.Core.Path.{_≡_};
 ghost use Prim.Native.Nat.{_*_, _^_, _≤_, _<_};
-ghost use lib.ListN.{length, getD};
+ghost use lib.ListN.{length};
 ghost use Rattle.ring.specs.Vectors.{filled, inFront};
-ghost use Rattle.diagonals.specs.Calls.{MapWritten};
-ghost use Rattle.maps.specs.Readings.{tauRep, rotateRowsRep};
-ghost use Rattle.maps.specs.Sums.{leftMulRep};
-ghost use Rattle.maps.specs.Calls.{tiledRefusal, rowsRepRefusal, leftMulRepRefusal};
-ghost use Rattle.maps.specs.RowSteps.{rowPairs, rowValue, mask, turnedAt, turnedPlace};
+ghost use Rattle.diagonals.specs.Maps.{pairRoom};
+ghost use Rattle.maps.specs.Readings.{tauRep};
+ghost use Rattle.maps.specs.Calls.{TiledWritten, RowsRepWritten, LeftMulRepWritten};
+ghost use Rattle.maps.specs.Steps.Rows.{rowPairs, rowValue, mask, turnedAt, turnedPlace};
 
 // The pairs of d diagonals, the i-th at offset i·d.
 fn write_pairs(d: usize, len: usize, pairs: &mut [u32])
     requires { ⌜ d ≤ 256 ⌝ }
     requires { ⌜ len ≤ 65536 ⌝ }
-    requires { ⌜ 2 * d ≤ length (now pairs) ⌝ }
+    requires { ⌜ pairRoom d ≤ length (now pairs) ⌝ }
     ensures { λ _. ⌜ now (pairs .exit) ≡ inFront (rowPairs (λ i. i * d) len d) (now (pairs .entry)) ⌝ }
 {
     for i in 0..d {
-        let at = 2 * i;
-        pairs[at] = (i * d) as u32;
-        pairs[at + 1] = len as u32;
+        diagonals::put_pair(pairs, i, (i * d) as u32, len as u32);
     }
 }
 
@@ -38,15 +35,16 @@ fn write_masks(log_d: usize, values: &mut [u64])
 
 // JKLS tau: output (r, c) reads ((r + c) mod d, c), through the rotation by c·d.
 pub fn tau_rep(slots: usize, log_d: usize, pairs: &mut [u32], values: &mut [u64]) -> ring::Answer
-    ensures { λ r. ⌜ MapWritten (tiledRefusal slots «log_d» (tauRep (2 ^ «log_d»)) (now (pairs .entry)) (now (values .entry))) (tauRep (2 ^ «log_d»)) (now (pairs .entry)) (now (pairs .exit)) (now (values .entry)) (now (values .exit)) r ⌝ }
+    ensures { λ r. ⌜ TiledWritten slots «log_d» (tauRep (2 ^ «log_d»)) (now (pairs .entry)) (now (pairs .exit)) (now (values .entry)) (now (values .exit)) r ⌝ }
 {
     let code = crate::tiles::tiles_refusal(slots, log_d, 1);
     if code != 0 {
         return ring::Answer::Refused(code);
     }
     let d = crate::tiles::side(log_d);
-    if crate::tiles::has_no_room(d, d * d, pairs.len(), values.len()) {
-        return ring::Answer::Refused(12);
+    let room = diagonals::room_refusal(d, d * d, pairs.len(), values.len());
+    if room != 0 {
+        return ring::Answer::Refused(room);
     }
     write_pairs(d, d, pairs);
     write_masks(log_d, values);
@@ -61,7 +59,7 @@ pub fn rotate_rows_rep(
     pairs: &mut [u32],
     values: &mut [u64],
 ) -> ring::Answer
-    ensures { λ r. ⌜ MapWritten (rowsRepRefusal slots «log_d» k (now (pairs .entry)) (now (values .entry))) (rotateRowsRep slots (2 ^ «log_d») k) (now (pairs .entry)) (now (pairs .exit)) (now (values .entry)) (now (values .exit)) r ⌝ }
+    ensures { λ r. ⌜ RowsRepWritten slots «log_d» k (now (pairs .entry)) (now (pairs .exit)) (now (values .entry)) (now (values .exit)) r ⌝ }
 {
     let code = crate::tiles::tiles_refusal(slots, log_d, 1);
     if code != 0 {
@@ -74,10 +72,11 @@ pub fn rotate_rows_rep(
     if d <= k {
         return ring::Answer::Refused(6);
     }
-    if crate::tiles::has_no_room(1, 1, pairs.len(), values.len()) {
-        return ring::Answer::Refused(12);
+    let room = diagonals::room_refusal(1, 1, pairs.len(), values.len());
+    if room != 0 {
+        return ring::Answer::Refused(room);
     }
-    crate::values::write_pair((k * d % slots) as u32, 1, pairs);
+    diagonals::put_pair(pairs, 0, (k * d % slots) as u32, 1);
     values[0] = 1;
     ring::Answer::Is(1)
 }
@@ -114,7 +113,7 @@ pub fn left_mul_rep(
     pairs: &mut [u32],
     values: &mut [u64],
 ) -> ring::Answer
-    ensures { λ r. ⌜ MapWritten (leftMulRepRefusal slots «log_d» (now (b .entry)) (now (pairs .entry)) (now (values .entry))) (leftMulRep (2 ^ «log_d») (now (b .entry))) (now (pairs .entry)) (now (pairs .exit)) (now (values .entry)) (now (values .exit)) r ⌝ }
+    ensures { λ r. ⌜ LeftMulRepWritten slots «log_d» (now (b .entry)) (now (pairs .entry)) (now (pairs .exit)) (now (values .entry)) (now (values .exit)) r ⌝ }
 {
     let code = crate::tiles::tiles_refusal(slots, log_d, 1);
     if code != 0 {
@@ -125,8 +124,9 @@ pub fn left_mul_rep(
     if b.len() != size {
         return ring::Answer::Refused(7);
     }
-    if crate::tiles::has_no_room(d, d * size, pairs.len(), values.len()) {
-        return ring::Answer::Refused(12);
+    let room = diagonals::room_refusal(d, d * size, pairs.len(), values.len());
+    if room != 0 {
+        return ring::Answer::Refused(room);
     }
     write_pairs(d, size, pairs);
     write_turned(log_d, b, values);

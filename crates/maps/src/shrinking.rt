@@ -3,17 +3,18 @@ ghost use mathlib.Core.Path.{_≡_};
 ghost use Prim.Native.Nat.{_*_, _≤_};
 ghost use lib.ListN.{length};
 ghost use Rattle.ring.specs.Vectors.{filled, inFront};
-ghost use Rattle.diagonals.specs.Maps.{offsetAt};
-ghost use Rattle.maps.specs.RowSteps.{rowPairs};
-ghost use Rattle.maps.specs.ShrinkSteps.{Even, Shrank, Narrowing, movedAt};
+ghost use Rattle.diagonals.specs.Maps.{pairRoom, offsetAt};
+ghost use Rattle.maps.specs.Steps.Rows.{rowPairs};
+ghost use Rattle.maps.specs.Steps.Shrinking.{Even, Shrank, Narrowing, movedAt};
 
 fn write_lengths(count: usize, p: usize, pairs: &mut [u32])
     requires { ⌜ p ≤ 65536 ⌝ }
-    requires { ⌜ 2 * count ≤ length (now pairs) ⌝ }
+    requires { ⌜ pairRoom count ≤ length (now pairs) ⌝ }
     ensures { λ _. ⌜ now (pairs .exit) ≡ inFront (rowPairs (offsetAt (now (pairs .entry))) p count) (now (pairs .entry)) ⌝ }
 {
     for i in 0..count {
-        pairs[2 * i + 1] = p as u32;
+        let offset = diagonals::offset_at(pairs, i);
+        diagonals::put_pair(pairs, i, offset, p as u32);
     }
 }
 

@@ -1,14 +1,13 @@
 // The products by public matrices.
 ghost use mathlib.Core.Path.{_≡_};
-ghost use Prim.Native.Nat.{_+_, _*_, _^_, _≤_, _<_};
-ghost use lib.ListN.{length};
+ghost use Prim.Native.Nat.{_+_, _*_, _≤_, _<_};
+ghost use Rattle.ring.specs.Slots.{modulus};
 ghost use Rattle.ring.specs.Marks.{Unmarked};
-ghost use Rattle.diagonals.specs.Calls.{MapWritten};
-ghost use Rattle.diagonals.specs.SlotSteps.{SumsOf};
-ghost use Rattle.maps.specs.Sums.{periodOf, productMap};
-ghost use Rattle.maps.specs.Calls.{productRefusal};
-ghost use Rattle.maps.specs.ReadingSteps.{Within};
-ghost use Rattle.maps.specs.SumSteps.{plainRows, OutputIs, RowAt, SpotIs, SummandIs, RowMarked, SumsMarked, Outputs, SumsUpTo, ProductJudged};
+ghost use Rattle.diagonals.specs.Building.{SumsOf};
+ghost use Rattle.maps.specs.Sums.{periodOf};
+ghost use Rattle.maps.specs.Calls.{ProductWritten};
+ghost use Rattle.maps.specs.Steps.Readings.{Within};
+ghost use Rattle.maps.specs.Steps.Sums.{plainRows, OutputIs, RowAt, SpotIs, SummandIs, RowMarked, SumsMarked, Outputs, SumsUpTo, ProductJudged};
 ghost use Rattle.maps.specs.declared.rules.Product.the-variants.{RightMul, LeftMul, RightJkls, LeftJkls};
 use crate::readings::folded;
 use crate::rules::Product;
@@ -112,7 +111,7 @@ fn add_row(
     requires { ⌜ RowAt slots d (o .t) (o .base) (o .row) (o .col) ⌝ }
     requires { ⌜ (o .t) < period ⌝ }
     requires { ⌜ SumsUpTo p slots d period (o .t) (now b) (now places) (now values) (now values) ⌝ }
-    ensures { λ _. ⌜ SumsOf slots period (plainRows p d (now (b .entry)) period) (plainRows p d (now (b .entry)) (o .t + 1)) (now (values .entry)) (now (values .exit)) ⌝ }
+    ensures { λ _. ⌜ SumsOf modulus slots period (plainRows p d (now (b .entry)) period) (plainRows p d (now (b .entry)) (o .t + 1)) (now (values .entry)) (now (values .exit)) ⌝ }
 {
     for l in 0..d {
         let m = summand_of(p, d, o, l);
@@ -133,7 +132,7 @@ fn add_sums(
     values: &mut [u64],
 )
     requires { ⌜ SumsUpTo p slots d period 0 (now b) (now places) (now values) (now values) ⌝ }
-    ensures { λ _. ⌜ SumsOf slots period (plainRows p d (now (b .entry)) period) (plainRows p d (now (b .entry)) period) (now (values .entry)) (now (values .exit)) ⌝ }
+    ensures { λ _. ⌜ SumsOf modulus slots period (plainRows p d (now (b .entry)) period) (plainRows p d (now (b .entry)) period) (now (values .entry)) (now (values .exit)) ⌝ }
 {
     for t in 0..period {
         add_row(p, slots, d, period, output_of(d, t), b, places, values);
@@ -177,7 +176,7 @@ fn product_map(
     pairs: &mut [u32],
     values: &mut [u64],
 ) -> ring::Answer
-    ensures { λ r. ⌜ MapWritten (productRefusal slots «log_d» count p (now (b .entry)) (now (pairs .entry)) (now (values .entry))) (productMap slots (2 ^ «log_d») count p (now (b .entry))) (now (pairs .entry)) (now (pairs .exit)) (now (values .entry)) (now (values .exit)) r ⌝ }
+    ensures { λ r. ⌜ ProductWritten slots «log_d» count p (now (b .entry)) (now (pairs .entry)) (now (pairs .exit)) (now (values .entry)) (now (values .exit)) r ⌝ }
 {
     let code = product_refusal(slots, log_d, count, b);
     if code != 0 {
@@ -188,12 +187,13 @@ fn product_map(
     let mut seen = [false; 65536];
     mark_sums(p, slots, d, period, &mut seen);
     let mut places = [0u32; 65536];
-    let ring::Answer::Is(n) = diagonals::zero_map(slots, period, &seen, &mut places, pairs, values)
-    else {
-        return ring::Answer::Refused(12);
-    };
-    add_sums(p, slots, d, period, b, &places, values);
-    ring::Answer::Is(n)
+    match diagonals::zero_map(slots, period, &seen, &mut places, pairs, values) {
+        ring::Answer::Refused(e) => ring::Answer::Refused(e),
+        ring::Answer::Is(n) => {
+            add_sums(p, slots, d, period, b, &places, values);
+            ring::Answer::Is(n)
+        }
+    }
 }
 
 // The right product by public matrices: output (r, c) of matrix slot s sums in(r, l) times b(s, l, c).
@@ -205,7 +205,7 @@ pub fn right_mul(
     pairs: &mut [u32],
     values: &mut [u64],
 ) -> ring::Answer
-    ensures { λ r. ⌜ MapWritten (productRefusal slots «log_d» count RightMul (now (b .entry)) (now (pairs .entry)) (now (values .entry))) (productMap slots (2 ^ «log_d») count RightMul (now (b .entry))) (now (pairs .entry)) (now (pairs .exit)) (now (values .entry)) (now (values .exit)) r ⌝ }
+    ensures { λ r. ⌜ ProductWritten slots «log_d» count RightMul (now (b .entry)) (now (pairs .entry)) (now (pairs .exit)) (now (values .entry)) (now (values .exit)) r ⌝ }
 {
     product_map(Product::RightMul, slots, log_d, count, b, pairs, values)
 }
@@ -219,7 +219,7 @@ pub fn left_mul(
     pairs: &mut [u32],
     values: &mut [u64],
 ) -> ring::Answer
-    ensures { λ r. ⌜ MapWritten (productRefusal slots «log_d» count LeftMul (now (b .entry)) (now (pairs .entry)) (now (values .entry))) (productMap slots (2 ^ «log_d») count LeftMul (now (b .entry))) (now (pairs .entry)) (now (pairs .exit)) (now (values .entry)) (now (values .exit)) r ⌝ }
+    ensures { λ r. ⌜ ProductWritten slots «log_d» count LeftMul (now (b .entry)) (now (pairs .entry)) (now (pairs .exit)) (now (values .entry)) (now (values .exit)) r ⌝ }
 {
     product_map(Product::LeftMul, slots, log_d, count, b, pairs, values)
 }
@@ -233,7 +233,7 @@ pub fn right_jkls(
     pairs: &mut [u32],
     values: &mut [u64],
 ) -> ring::Answer
-    ensures { λ r. ⌜ MapWritten (productRefusal slots «log_d» count RightJkls (now (b .entry)) (now (pairs .entry)) (now (values .entry))) (productMap slots (2 ^ «log_d») count RightJkls (now (b .entry))) (now (pairs .entry)) (now (pairs .exit)) (now (values .entry)) (now (values .exit)) r ⌝ }
+    ensures { λ r. ⌜ ProductWritten slots «log_d» count RightJkls (now (b .entry)) (now (pairs .entry)) (now (pairs .exit)) (now (values .entry)) (now (values .exit)) r ⌝ }
 {
     product_map(Product::RightJkls, slots, log_d, count, b, pairs, values)
 }
@@ -247,7 +247,7 @@ pub fn left_jkls(
     pairs: &mut [u32],
     values: &mut [u64],
 ) -> ring::Answer
-    ensures { λ r. ⌜ MapWritten (productRefusal slots «log_d» count LeftJkls (now (b .entry)) (now (pairs .entry)) (now (values .entry))) (productMap slots (2 ^ «log_d») count LeftJkls (now (b .entry))) (now (pairs .entry)) (now (pairs .exit)) (now (values .entry)) (now (values .exit)) r ⌝ }
+    ensures { λ r. ⌜ ProductWritten slots «log_d» count LeftJkls (now (b .entry)) (now (pairs .entry)) (now (pairs .exit)) (now (values .entry)) (now (values .exit)) r ⌝ }
 {
     product_map(Product::LeftJkls, slots, log_d, count, b, pairs, values)
 }

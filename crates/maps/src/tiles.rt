@@ -1,7 +1,7 @@
-// How matrices tile the slots, and the room that a map takes.
+// How matrices tile the slots.
 ghost use mathlib.Core.Path.{_≡_};
 ghost use Prim.Native.Nat.{_^_, _≤_};
-ghost use Rattle.maps.specs.TileSteps.{TilesJudged, NoRoom};
+ghost use Rattle.maps.specs.Steps.Tiles.{TilesJudged};
 
 // The rows of a matrix.
 pub(crate) fn side(log_d: usize) -> usize
@@ -32,15 +32,4 @@ pub(crate) fn tiles_refusal(slots: usize, log_d: usize, count: usize) -> u32
         return 5;
     }
     0
-}
-
-// Whether a map of `count` pairs and `total` values is longer than the buffers.
-pub(crate) fn has_no_room(count: usize, total: usize, pairs: usize, values: usize) -> bool
-    requires { ⌜ count ≤ 65536 ⌝ }
-    ensures { λ r. ⌜ NoRoom count total pairs values r ⌝ }
-{
-    if pairs < 2 * count {
-        return true;
-    }
-    values < total
 }

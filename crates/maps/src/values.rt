@@ -1,15 +1,13 @@
 // Skewed values, products by slot vectors and projections.
 ghost use mathlib.Core.Path.{_≡_};
 ghost use mathlib.Core.Bool.{true, false, cond};
-ghost use mathlib.Core.List.{[], _∷_};
 ghost use Prim.Native.Nat.{_*_, _^_, _≤_, _<_, _∣_};
 ghost use lib.ListN.{length};
-ghost use Rattle.ring.specs.Vectors.{filled, inFront};
-ghost use Rattle.diagonals.specs.Calls.{MapWritten};
-ghost use Rattle.maps.specs.Values.{slotProduct, firstRow, firstCol};
-ghost use Rattle.maps.specs.Calls.{ValuesWritten, slotProductRefusal, tiledRefusal};
-ghost use Rattle.maps.specs.RowSteps.{ones};
-ghost use Rattle.maps.specs.ValueSteps.{skewedPlace, skewedAt, ValuesJudged, OnesWritten};
+ghost use Rattle.ring.specs.Vectors.{filled};
+ghost use Rattle.maps.specs.Values.{firstRow, firstCol};
+ghost use Rattle.maps.specs.Calls.{ValuesWritten, SlotProductWritten, TiledWritten};
+ghost use Rattle.maps.specs.Steps.Rows.{ones};
+ghost use Rattle.maps.specs.Steps.Values.{skewedPlace, skewedAt, ValuesJudged, OnesWritten};
 
 // Where the skewed entry of slot t stands.
 fn skewed_place(rows: bool, log_d: usize, t: usize) -> usize
@@ -102,15 +100,6 @@ pub(crate) fn one_if(test: bool) -> u64
     0
 }
 
-// The only pair of a map.
-pub(crate) fn write_pair(offset: u32, len: u32, pairs: &mut [u32])
-    requires { ⌜ 2 ≤ length (now pairs) ⌝ }
-    ensures { λ _. ⌜ now (pairs .exit) ≡ inFront (offset ∷ len ∷ []) (now (pairs .entry)) ⌝ }
-{
-    pairs[0] = offset;
-    pairs[1] = len;
-}
-
 fn write_ones(n: usize, len: usize, values: &mut [u64])
     requires { ⌜ len ≤ length (now values) ⌝ }
     ensures { λ _. ⌜ now (values .exit) ≡ filled (ones n) len (now (values .entry)) ⌝ }
@@ -125,17 +114,18 @@ fn project(n: usize, len: usize, pairs: &mut [u32], values: &mut [u64]) -> ring:
     requires { ⌜ len ≤ 65536 ⌝ }
     ensures { λ r. ⌜ OnesWritten n len (now (pairs .entry)) (now (pairs .exit)) (now (values .entry)) (now (values .exit)) r ⌝ }
 {
-    if crate::tiles::has_no_room(1, len, pairs.len(), values.len()) {
-        return ring::Answer::Refused(12);
+    let room = diagonals::room_refusal(1, len, pairs.len(), values.len());
+    if room != 0 {
+        return ring::Answer::Refused(room);
     }
-    write_pair(0, len as u32, pairs);
+    diagonals::put_pair(pairs, 0, 0, len as u32);
     write_ones(n, len, values);
     ring::Answer::Is(1)
 }
 
 // The projection on row 0, stored at d².
 pub fn first_row(slots: usize, log_d: usize, pairs: &mut [u32], values: &mut [u64]) -> ring::Answer
-    ensures { λ r. ⌜ MapWritten (tiledRefusal slots «log_d» (firstRow (2 ^ «log_d»)) (now (pairs .entry)) (now (values .entry))) (firstRow (2 ^ «log_d»)) (now (pairs .entry)) (now (pairs .exit)) (now (values .entry)) (now (values .exit)) r ⌝ }
+    ensures { λ r. ⌜ TiledWritten slots «log_d» (firstRow (2 ^ «log_d»)) (now (pairs .entry)) (now (pairs .exit)) (now (values .entry)) (now (values .exit)) r ⌝ }
 {
     let code = crate::tiles::tiles_refusal(slots, log_d, 1);
     if code != 0 {
@@ -147,7 +137,7 @@ pub fn first_row(slots: usize, log_d: usize, pairs: &mut [u32], values: &mut [u6
 
 // The projection on column 0, stored at d.
 pub fn first_col(slots: usize, log_d: usize, pairs: &mut [u32], values: &mut [u64]) -> ring::Answer
-    ensures { λ r. ⌜ MapWritten (tiledRefusal slots «log_d» (firstCol (2 ^ «log_d»)) (now (pairs .entry)) (now (values .entry))) (firstCol (2 ^ «log_d»)) (now (pairs .entry)) (now (pairs .exit)) (now (values .entry)) (now (values .exit)) r ⌝ }
+    ensures { λ r. ⌜ TiledWritten slots «log_d» (firstCol (2 ^ «log_d»)) (now (pairs .entry)) (now (pairs .exit)) (now (values .entry)) (now (values .exit)) r ⌝ }
 {
     let code = crate::tiles::tiles_refusal(slots, log_d, 1);
     if code != 0 {
@@ -164,7 +154,7 @@ pub fn slot_product(
     pairs: &mut [u32],
     values: &mut [u64],
 ) -> ring::Answer
-    ensures { λ r. ⌜ MapWritten (slotProductRefusal slots (now (v .entry)) rotation (now (pairs .entry)) (now (values .entry))) (slotProduct (now (v .entry)) rotation) (now (pairs .entry)) (now (pairs .exit)) (now (values .entry)) (now (values .exit)) r ⌝ }
+    ensures { λ r. ⌜ SlotProductWritten slots (now (v .entry)) rotation (now (pairs .entry)) (now (pairs .exit)) (now (values .entry)) (now (values .exit)) r ⌝ }
 {
     if ring::is_outside(slots) {
         return ring::Answer::Refused(1);
@@ -176,10 +166,11 @@ pub fn slot_product(
     if slots % n != 0 {
         return ring::Answer::Refused(4);
     }
-    if crate::tiles::has_no_room(1, n, pairs.len(), values.len()) {
-        return ring::Answer::Refused(12);
+    let room = diagonals::room_refusal(1, n, pairs.len(), values.len());
+    if room != 0 {
+        return ring::Answer::Refused(room);
     }
-    write_pair(0, n as u32, pairs);
+    diagonals::put_pair(pairs, 0, 0, n as u32);
     diagonals::rotate_slots_into(v, rotation, &mut values[..n]);
     ring::Answer::Is(1)
 }

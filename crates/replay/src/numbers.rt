@@ -1,6 +1,5 @@
 // The words of a call as other numbers.
-ghost use Prim.Native.Nat.{_≤_};
-ghost use lib.ListN.{length};
+use crate::words::word_at;
 
 // The i64 whose two's complement is w.
 pub(crate) fn signed(w: u64) -> i64 {
@@ -14,31 +13,29 @@ pub(crate) fn narrow(w: u64) -> u32 {
     (w % 0x1_0000_0000) as u32
 }
 
-// The words modulo 2^32, in front of out.
-pub(crate) fn narrow_into(words: &[u64], out: &mut [u32])
-    requires { ⌜ length (now words) ≤ length (now out) ⌝ }
-{
-    for i in 0..words.len() {
-        out[i] = narrow(words[i]);
+// The first 512 words modulo 2^32; zeros behind them, here and below.
+pub(crate) fn narrowed(words: &[u64]) -> [u32; 512] {
+    let mut out = [0u32; 512];
+    for i in 0..512 {
+        out[i] = narrow(word_at(words, i));
     }
+    out
 }
 
-// The words, in front of out.
-pub(crate) fn copy_into(words: &[u64], out: &mut [u64])
-    requires { ⌜ length (now words) ≤ length (now out) ⌝ }
-{
-    for i in 0..words.len() {
-        out[i] = words[i];
+pub(crate) fn copied(words: &[u64]) -> [u64; 512] {
+    let mut out = [0u64; 512];
+    for i in 0..512 {
+        out[i] = word_at(words, i);
     }
+    out
 }
 
-// The words as signed numbers, in front of out.
-pub(crate) fn signed_into(words: &[u64], out: &mut [i64])
-    requires { ⌜ length (now words) ≤ length (now out) ⌝ }
-{
-    for i in 0..words.len() {
-        out[i] = signed(words[i]);
+pub(crate) fn all_signed(words: &[u64]) -> [i64; 512] {
+    let mut out = [0i64; 512];
+    for i in 0..512 {
+        out[i] = signed(word_at(words, i));
     }
+    out
 }
 
 // The strategy of a kind; a kind that there is not has no width.
@@ -46,16 +43,12 @@ pub(crate) fn strategy(
     kind: u64,
     width: usize,
 ) -> linear_transformation::LinearTransformationStrategy {
-    if kind == 0 {
-        return linear_transformation::LinearTransformationStrategy::Bsgs { giant_step: width };
-    }
-    if kind == 1 {
-        return linear_transformation::LinearTransformationStrategy::BsgsPowersOfTwo {
+    match kind {
+        0 => linear_transformation::LinearTransformationStrategy::Bsgs { giant_step: width },
+        1 => linear_transformation::LinearTransformationStrategy::BsgsPowersOfTwo {
             giant_step: width,
-        };
+        },
+        2 => linear_transformation::LinearTransformationStrategy::Direct,
+        _ => linear_transformation::LinearTransformationStrategy::Bsgs { giant_step: 0 },
     }
-    if kind == 2 {
-        return linear_transformation::LinearTransformationStrategy::Direct;
-    }
-    linear_transformation::LinearTransformationStrategy::Bsgs { giant_step: 0 }
 }

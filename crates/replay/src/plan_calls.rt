@@ -1,183 +1,132 @@
-// The calls of the crate linear_transformation.
-use crate::numbers::signed;
-use crate::numbers::signed_into;
+// The calls of plans and rotations. What a call writes holds sevens before.
+use crate::numbers::all_signed;
 use crate::numbers::strategy;
-use crate::showing::show;
 use crate::showing::show_answer;
-use crate::showing::show_narrow_words;
+use crate::showing::show_listed;
+use crate::showing::show_narrow_out;
 use crate::showing::show_next;
-ghost use Prim.Native.Nat.{_≤_};
-ghost use lib.ListN.{length};
+use crate::showing::show_two;
+use crate::words::Head;
+use crate::words::narrow_lent;
+use crate::words::rest;
+use crate::words::signed_front;
 
-pub(crate) fn show_normal(words: &[u64]) {
-    if words.len() == 2 {
-        let k = signed(words[0]);
-        let slots = words[1] as usize;
-        show_answer(linear_transformation::normalize_linear_transform_diagonal(k, slots));
-    }
+fn show_three(a: u64, b: u64, c: u64) {
+    show_two(a, b);
+    show_next(c);
 }
 
-pub(crate) fn show_multiple(words: &[u64]) {
-    if words.len() == 2 {
-        let baby = signed(words[0]);
-        let step = words[1] as usize;
-        show_answer(linear_transformation::baby_multiple(baby, step));
-    }
-}
-
-// A digit is in -32768..32767, so its residue modulo 65,536 tells it.
-fn show_digit_answer(a: linear_transformation::DigitAnswer) {
-    match a {
-        linear_transformation::DigitAnswer::Refused(e) => {
-            show(e as u64);
-            show_next(0);
-        }
-        linear_transformation::DigitAnswer::Is(d) => {
-            show(0);
-            show_next(ring::residue(d.0, 65536) as u64);
-        }
-    }
-}
-
-pub(crate) fn show_digit(words: &[u64]) {
-    if words.len() == 3 {
-        let rot = signed(words[0]);
-        let step = words[1] as usize;
-        let slots = words[2] as usize;
-        show_digit_answer(linear_transformation::giant_digit(rot, step, slots));
-    }
+fn show_four(a: u64, b: u32, c: u32, d: u32) {
+    show_three(a, b as u64, c as u64);
+    show_next(d as u64);
 }
 
 fn show_plan_answer(a: linear_transformation::PlanAnswer) {
     match a {
-        linear_transformation::PlanAnswer::Refused(e) => {
-            show(e as u64);
-            show_next(0);
-            show_next(0);
-            show_next(0);
-        }
+        linear_transformation::PlanAnswer::Refused(e) => show_four(e as u64, 0, 0, 0),
         linear_transformation::PlanAnswer::Is {
             babies: b,
             giants: g,
             diagonals: d,
-        } => {
-            show(0);
-            show_next(b as u64);
-            show_next(g as u64);
-            show_next(d as u64);
-        }
+        } => show_four(0, b, g, d),
     }
 }
 
-// A list that a call wrote, with its answer.
-fn show_listed(a: ring::Answer, out: &[u32]) {
-    show_answer(a);
-    show_narrow_words(out);
+// The head is a strategy's kind and width, slots, the length of out.
+pub(crate) fn show_strategy_call(code: u64, h: Head, words: &[u64]) {
+    let indexes = rest(words, 4);
+    let list = all_signed(indexes);
+    show_by_strategy(code, h, signed_front(&list, indexes.len()));
 }
 
-// The calls of a strategy.
-fn show_by_strategy(code: u64, head: &[u64], list: &[i64], out: &mut [u32]) {
-    if head.len() < 3 {
-        return;
-    }
-    let s = strategy(head[0], head[1] as usize);
-    let slots = head[2] as usize;
+fn show_by_strategy(code: u64, h: Head, list: &[i64]) {
+    let s = strategy(h.w0, h.n1);
     match code {
-        20 => {
-            show_plan_answer(linear_transformation::linear_transform_index(list, slots, s, out));
-            show_narrow_words(out);
-        }
-        21 => show_listed(linear_transformation::baby_steps(list, slots, s, out), out),
-        22 => show_listed(
-            linear_transformation::plan_key_rotations(list, slots, s, out),
-            out,
-        ),
-        23 => show_answer(linear_transformation::plan_key_switches(list, slots, s)),
-        24 => show_answer(linear_transformation::baby_step(list, slots, head[1] as usize)),
-        25 => show_answer(linear_transformation::optimal_bsgs_giant_step(list, slots)),
-        _ => {}
+        20 => show_plan(s, h, list),
+        23 => show_answer(linear_transformation::plan_key_switches(list, h.n2, s)),
+        24 => show_answer(linear_transformation::baby_step(list, h.n2, h.n1)),
+        25 => show_answer(linear_transformation::optimal_bsgs_giant_step(list, h.n2)),
+        _ => show_steps(code, s, h, list),
     }
 }
 
-// The words are a strategy's kind and width, slots, the length of out, the indexes.
-pub(crate) fn show_plan_call(code: u64, words: &[u64]) {
-    if words.len() < 4 {
-        return;
-    }
-    if words.len() > 512 {
-        return;
-    }
-    if words[3] > 512 {
-        return;
-    }
-    let n = words.len() - 4;
-    let room = words[3] as usize;
-    let mut list = [0i64; 512];
-    signed_into(&words[4..], &mut list);
+fn show_plan(s: linear_transformation::LinearTransformationStrategy, h: Head, list: &[i64]) {
     let mut out = [7u32; 512];
-    show_by_strategy(code, words, &list[..n], &mut out[..room]);
+    let a = linear_transformation::linear_transform_index(
+        list,
+        h.n2,
+        s,
+        narrow_lent(&mut out, h.n3),
+    );
+    show_plan_answer(a);
+    show_narrow_out(out, h.n3);
 }
 
-fn rotations(head: &[u64]) -> linear_transformation::BsgsRotations
-    requires { ⌜ 4 ≤ length (now head) ⌝ }
-{
-    if head[0] == 0 {
-        return linear_transformation::BsgsRotations::PerRotation;
-    }
-    if head[0] == 1 {
-        return linear_transformation::BsgsRotations::PowersOfTwo {
-            baby_step: head[1] as usize,
-            giant_step: head[2] as usize,
-            slots: head[3] as usize,
-        };
-    }
-    linear_transformation::BsgsRotations::PowersOfTwo {
-        baby_step: 0,
-        giant_step: 0,
-        slots: head[3] as usize,
-    }
+fn show_steps(
+    code: u64,
+    s: linear_transformation::LinearTransformationStrategy,
+    h: Head,
+    list: &[i64],
+) {
+    let mut out = [7u32; 512];
+    let a = match code {
+        21 => linear_transformation::baby_steps(list, h.n2, s, narrow_lent(&mut out, h.n3)),
+        _ => linear_transformation::plan_key_rotations(list, h.n2, s, narrow_lent(&mut out, h.n3)),
+    };
+    show_listed(a, out, h.n3);
 }
 
-// The calls of rotations that write one list or none.
-fn show_by_rotations(code: u64, head: &[u64], list: &[i64], out: &mut [u32])
-    requires { ⌜ 4 ≤ length (now head) ⌝ }
-{
-    let r = rotations(head);
+// Where the list of a call of rotations begins: behind these and the lengths of what is written.
+fn list_at(code: u64) -> usize {
     match code {
-        26 => show_listed(linear_transformation::baby_closure(r, list, out), out),
-        27 => show_listed(linear_transformation::baby_key_rotations(r, list, out), out),
-        28 => show_listed(
-            linear_transformation::giant_key_rotations(r, list, out),
-            out,
-        ),
+        30 => 6,
+        31 => 7,
+        _ => 5,
+    }
+}
+
+fn rotations(h: Head) -> linear_transformation::BsgsRotations {
+    let kind = h.w0;
+    match kind {
+        0 => linear_transformation::BsgsRotations::PerRotation,
+        1 => linear_transformation::BsgsRotations::PowersOfTwo {
+            baby_step: h.n1,
+            giant_step: h.n2,
+            slots: h.n3,
+        },
+        _ => linear_transformation::BsgsRotations::PowersOfTwo {
+            baby_step: 0,
+            giant_step: 0,
+            slots: h.n3,
+        },
+    }
+}
+
+// The head is rotations (kind, baby step, giant step, slots) and the lengths of what is written.
+pub(crate) fn show_rotations_call(code: u64, h: Head, words: &[u64]) {
+    let babies = rest(words, list_at(code));
+    let list = all_signed(babies);
+    show_by_rotations(code, h, signed_front(&list, babies.len()));
+}
+
+fn show_by_rotations(code: u64, h: Head, list: &[i64]) {
+    let r = rotations(h);
+    match code {
         29 => show_answer(linear_transformation::giant_key_switches(r, list)),
-        _ => {}
+        30 => show_passes(r, h, list),
+        31 => show_tree(r, h, list),
+        _ => show_keys(code, r, h.n4, list),
     }
 }
 
-// The words are rotations (kind, baby step, giant step, slots), the length of out, the list.
-pub(crate) fn show_rotations_call(code: u64, words: &[u64]) {
-    if words.len() < 5 {
-        return;
-    }
-    if words.len() > 512 {
-        return;
-    }
-    if words[4] > 512 {
-        return;
-    }
-    let n = words.len() - 5;
-    let room = words[4] as usize;
-    let mut list = [0i64; 512];
-    signed_into(&words[5..], &mut list);
+fn show_keys(code: u64, r: linear_transformation::BsgsRotations, n: usize, list: &[i64]) {
     let mut out = [7u32; 512];
-    show_by_rotations(code, words, &list[..n], &mut out[..room]);
-}
-
-fn show_three(a: u64, b: u64, c: u64) {
-    show(a);
-    show_next(b);
-    show_next(c);
+    let a = match code {
+        26 => linear_transformation::baby_closure(r, list, narrow_lent(&mut out, n)),
+        27 => linear_transformation::baby_key_rotations(r, list, narrow_lent(&mut out, n)),
+        _ => linear_transformation::giant_key_rotations(r, list, narrow_lent(&mut out, n)),
+    };
+    show_listed(a, out, n);
 }
 
 fn show_passes_answer(a: linear_transformation::PassesAnswer) {
@@ -190,44 +139,18 @@ fn show_passes_answer(a: linear_transformation::PassesAnswer) {
     }
 }
 
-fn show_passes_into(head: &[u64], list: &[i64], passes: &mut [u32], moves: &mut [u32])
-    requires { ⌜ 4 ≤ length (now head) ⌝ }
-{
-    let a = linear_transformation::baby_passes(rotations(head), list, passes, moves);
-    show_passes_answer(a);
-    show_narrow_words(passes);
-    show_narrow_words(moves);
-}
-
-fn show_passes_of(words: &[u64], list: &[i64]) {
-    if words.len() < 6 {
-        return;
-    }
-    if words[4] > 64 {
-        return;
-    }
-    if words[5] > 512 {
-        return;
-    }
-    let p = words[4] as usize;
-    let m = words[5] as usize;
-    let mut passes = [7u32; 64];
+fn show_passes(r: linear_transformation::BsgsRotations, h: Head, list: &[i64]) {
+    let mut passes = [7u32; 512];
     let mut moves = [7u32; 512];
-    show_passes_into(words, list, &mut passes[..p], &mut moves[..m]);
-}
-
-// The words are rotations, the lengths of passes and moves, the babies.
-pub(crate) fn show_passes(words: &[u64]) {
-    if words.len() < 6 {
-        return;
-    }
-    if words.len() > 512 {
-        return;
-    }
-    let n = words.len() - 6;
-    let mut list = [0i64; 512];
-    signed_into(&words[6..], &mut list);
-    show_passes_of(words, &list[..n]);
+    let a = linear_transformation::baby_passes(
+        r,
+        list,
+        narrow_lent(&mut passes, h.n4),
+        narrow_lent(&mut moves, h.n5),
+    );
+    show_passes_answer(a);
+    show_narrow_out(passes, h.n4);
+    show_narrow_out(moves, h.n5);
 }
 
 fn show_tree_answer(a: linear_transformation::TreeAnswer) {
@@ -240,60 +163,19 @@ fn show_tree_answer(a: linear_transformation::TreeAnswer) {
     }
 }
 
-fn show_tree_into(
-    head: &[u64],
-    list: &[i64],
-    leaves: &mut [u32],
-    levels: &mut [u32],
-    pairs: &mut [u32],
-)
-    requires { ⌜ 4 ≤ length (now head) ⌝ }
-{
-    let a = linear_transformation::giant_tree(rotations(head), list, leaves, levels, pairs);
-    show_tree_answer(a);
-    show_narrow_words(leaves);
-    show_narrow_words(levels);
-    show_narrow_words(pairs);
-}
-
-fn show_tree_of(words: &[u64], list: &[i64]) {
-    if words.len() < 7 {
-        return;
-    }
-    if words[4] > 512 {
-        return;
-    }
-    if words[5] > 64 {
-        return;
-    }
-    if words[6] > 512 {
-        return;
-    }
-    let f = words[4] as usize;
-    let l = words[5] as usize;
-    let p = words[6] as usize;
+fn show_tree(r: linear_transformation::BsgsRotations, h: Head, list: &[i64]) {
     let mut leaves = [7u32; 512];
-    let mut levels = [7u32; 64];
+    let mut levels = [7u32; 512];
     let mut pairs = [7u32; 512];
-    show_tree_into(
-        words,
+    let a = linear_transformation::giant_tree(
+        r,
         list,
-        &mut leaves[..f],
-        &mut levels[..l],
-        &mut pairs[..p],
+        narrow_lent(&mut leaves, h.n4),
+        narrow_lent(&mut levels, h.n5),
+        narrow_lent(&mut pairs, h.n6),
     );
-}
-
-// The words are rotations, the lengths of leaves, levels and pairs, the giants.
-pub(crate) fn show_tree(words: &[u64]) {
-    if words.len() < 7 {
-        return;
-    }
-    if words.len() > 512 {
-        return;
-    }
-    let n = words.len() - 7;
-    let mut list = [0i64; 512];
-    signed_into(&words[7..], &mut list);
-    show_tree_of(words, &list[..n]);
+    show_tree_answer(a);
+    show_narrow_out(leaves, h.n4);
+    show_narrow_out(levels, h.n5);
+    show_narrow_out(pairs, h.n6);
 }

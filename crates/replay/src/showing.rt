@@ -1,4 +1,6 @@
-// The numbers of an answer.
+// The numbers of an answer. What a call wrote comes by value, since a loan costs more to prove.
+use crate::words::front;
+use crate::words::narrow_front;
 
 pub(crate) fn show(x: u64) {
     io::print_decimal(1, x);
@@ -13,21 +15,16 @@ pub(crate) fn end_line() {
     io::write_all(1, b"\n");
 }
 
-pub(crate) fn show_answer(a: ring::Answer) {
-    match a {
-        ring::Answer::Refused(e) => {
-            show(e as u64);
-            show_next(0);
-        }
-        ring::Answer::Is(n) => {
-            show(0);
-            show_next(n as u64);
-        }
-    }
+pub(crate) fn show_two(a: u64, b: u64) {
+    show(a);
+    show_next(b);
 }
 
-fn show_next_narrow(x: u32) {
-    show_next(x as u64);
+pub(crate) fn show_answer(a: ring::Answer) {
+    match a {
+        ring::Answer::Refused(e) => show_two(e as u64, 0),
+        ring::Answer::Is(n) => show_two(0, n as u64),
+    }
 }
 
 pub(crate) fn show_words(words: &[u64]) {
@@ -38,26 +35,33 @@ pub(crate) fn show_words(words: &[u64]) {
 
 pub(crate) fn show_narrow_words(words: &[u32]) {
     for i in 0..words.len() {
-        show_next_narrow(words[i]);
+        show_next(words[i] as u64);
     }
 }
 
-pub(crate) fn show_test(t: diagonals::Test) {
-    match t {
-        diagonals::Test::Refused(e) => {
-            show(e as u64);
-            show_next(0);
-        }
-        diagonals::Test::Is(b) => {
-            show(0);
-            show_next(bit(b));
-        }
-    }
+// The first n words of what a call wrote, here and below.
+pub(crate) fn show_out(out: [u64; 512], n: usize) {
+    show_words(front(&out, n));
 }
 
-fn bit(b: bool) -> u64 {
-    if b {
-        return 1;
-    }
-    0
+pub(crate) fn show_narrow_out(out: [u32; 512], n: usize) {
+    show_narrow_words(narrow_front(&out, n));
+}
+
+// A list that a call wrote, with its answer.
+pub(crate) fn show_listed(a: ring::Answer, out: [u32; 512], n: usize) {
+    show_answer(a);
+    show_narrow_out(out, n);
+}
+
+// A map that a call wrote, with its answer.
+pub(crate) fn show_written(
+    a: ring::Answer,
+    pairs: [u32; 512],
+    np: usize,
+    values: [u64; 512],
+    nv: usize,
+) {
+    show_listed(a, pairs, np);
+    show_out(values, nv);
 }

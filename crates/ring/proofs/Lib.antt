@@ -2,3 +2,4 @@
 pub mod Product
 pub mod Signs
 pub mod Factors
+pub mod Counting

@@ -1,6 +1,6 @@
 -- The refusals of this crate's calls, in checking order, and what a call leaves in the buffers lent to it.
 -- Assumes nothing.
-use Prim.Native.Nat.{ℕ, _≤_}
+use Prim.Native.Nat.{ℕ, _≤_, min}
 use mathlib.Core.Path.{_≡_}
 use mathlib.Core.Bool.{Bool, false, not, _||_}
 use mathlib.Core.List.{List, [], _∷_}
@@ -8,12 +8,19 @@ use lib.Dec.{eqb}
 use lib.ListN.{length, getD}
 use Rattle.ring.specs.Slots.{modulus, addm, mulm}
 use Rattle.ring.specs.Vectors.{tabulate}
+use Rattle.ring.specs.Searches.{below}
+use Rattle.ring.specs.Marks.{marks}
 use Rattle.ring.specs.Refusals.{firstOf, onAccept, outside}
 
 -- `is_outside` of n, with what its answer no tells the caller
 pub record IsOutside (n : ℕ) (r : Bool) : Type 0 where
   pub answer : r ≡ outside n
   pub inside : r ≡ false → (1 ≤ n) × (n ≤ 65536)
+
+-- `count_marks`: the table has 65,536 places, so no number from there on is marked
+pub record MarksCounted (seen : List Bool) (n r : ℕ) : Type 0 where
+  pub answer : r ≡ length (below (marks seen) (min n 65536))
+  pub within : n ≤ 65536 → r ≡ length (below (marks seen) n)
 
 -- `period_lcm` of a and b
 abbrev pub lcmRefusal : ℕ → ℕ → ℕ

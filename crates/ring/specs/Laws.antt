@@ -8,5 +8,7 @@ pub mod Refusals
 pub mod Answers
 pub mod Searches
 pub mod Below
+pub mod Members
+pub mod Indexes
 pub mod Divisors
 pub mod Periods

@@ -1,9 +1,9 @@
 -- Vectors by their elements, and what lent buffers hold.
 -- Assumes nothing.
-use Prim.Native.Nat.{ℕ, zero, suc, _≤_}
+use Prim.Native.Nat.{ℕ, zero, suc, _+_, _≤_}
 use mathlib.Core.Path.{_≡_}
 use mathlib.Core.List.{List, [], _∷_, _++_}
-use lib.ListN.{length, drop}
+use lib.ListN.{length, take, drop}
 
 -- the list f 0, f 1, .., f (n - 1)
 abbrev pub tabulate : {A : Type 0} → ℕ → (ℕ → A) → List A
@@ -23,3 +23,8 @@ pub record Filling {A : Type 0} (f : ℕ → A) (d₀ d : List A) (j : ℕ) : Ty
   pub so-far : d ≡ filled f j d₀
   pub len : length d ≡ length d₀
   pub room : j ≤ length d₀
+
+-- words put from place `at` on, behind what the buffer began with; r is the place behind them
+pub record Behind (at : ℕ) (words old new : List ℕ) (r : ℕ) : Type 0 where
+  pub is : new ≡ inFront (take at old ++ words) old
+  pub end-is : r ≡ at + length words

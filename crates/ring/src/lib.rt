@@ -10,7 +10,7 @@ ghost use Rattle.ring.specs.Residues.{residueOf};
 ghost use Rattle.ring.specs.Answers.{answered};
 ghost use Rattle.ring.specs.Divisors.{gcdOf, lcmOf};
 ghost use Rattle.ring.specs.Periods.{repeats, minPeriod, IsPeriod};
-ghost use Rattle.ring.specs.Calls.{IsOutside, lcmRefusal, periodRefusal, productAdded, MultiplyAdd};
+ghost use Rattle.ring.specs.Calls.{IsOutside, MarksCounted, lcmRefusal, periodRefusal, productAdded, MultiplyAdd};
 ghost use Rattle.ring.specs.Steps.{Divided, Stripped, Reduced};
 
 // The answer of a call that gives one number.
@@ -41,6 +41,19 @@ pub fn is_outside(n: usize) -> bool
         return true;
     }
     65536 < n
+}
+
+// How many of the numbers below n are marked in the table.
+pub fn count_marks(seen: &[bool; 65536], n: usize) -> usize
+    ensures { λ r. ⌜ MarksCounted (now (seen .entry)) n r ⌝ }
+{
+    let mut count = 0;
+    for k in 0..least(n, 65536) {
+        if seen[k] {
+            count += 1;
+        }
+    }
+    count
 }
 
 // The product modulo 2^64. LLVM makes one imul of it.

@@ -10,8 +10,8 @@ use Rattle.ring.specs.Vectors.{tabulate}
 use Rattle.ring.specs.Laws.Vectors.{length-tabulate, getD-tabulate, tabulate-cong}
 use Rattle.diagonals.specs.Maps.{lengthAt, offsetAt, startAt, diagonalAt, view, WellFormed}
 use Rattle.diagonals.specs.Products.{term, product}
-use Rattle.diagonals.specs.Laws.Maps.{start-more, values-end}
-use Rattle.runs.specs.Steps.{diagonalAdded, Blocks}
+use Rattle.diagonals.specs.Laws.Maps.{start-more, values-end, stored-some}
+use Rattle.runs.specs.Steps.{diagonalAdded, Repeated}
 use Rattle.diagonals.specs.Laws.Products.{product-none, product-more}
 
 -- the first i diagonals are added, and the values of the next start at `start`
@@ -34,16 +34,16 @@ adding-none count pairs values input n e s t =
 
 module _ {count start i : ℕ} {pairs values input out table : List ℕ} (w : WellFormed (length input) count pairs values) (a : Adding count pairs values input out table start i) (l : i < count) {len : ℕ} (e : len ≡ lengthAt pairs i) where
   pub fits : start + len ≤ length values
-  fits = omega (arith, a .start-is, values-end i w l)
+  fits = omega (arith, a .start-is, values-end w i l)
 
   module _ {k : ℕ} (o : k ≡ offsetAt pairs i) where
     abbrev period : List ℕ
     period = take (start + len - start) (drop start values)
 
-    pub asked : Blocks period k input out
+    pub asked : Repeated period k input out
     asked =
         record {
-          some = simp (length-take, length-drop) (omega (arith, fits, w .each i l .some));
+          some = simp (length-take, length-drop) (omega (arith, fits, e, stored-some w i l));
           low = omega (arith, w .each i l .low, a .len);
           whole = sym (a .len);
         }

@@ -9,7 +9,7 @@ use lib.ListN.{length, getD, take, drop, length-take, length-drop}
 use lib.Seq.{length-take-le, getD-take, getD-drop}
 use Rattle.ring.specs.Vectors.{tabulate, Filling}
 use Rattle.ring.specs.Laws.Vectors.{tabulate-cong, filling-none, filling-block, filling-rest}
-use Rattle.runs.specs.Steps.{runAdded, Run, diagonalAdded, Blocks}
+use Rattle.runs.specs.Steps.{runAdded, Run, diagonalAdded, Repeated}
 use Rattle.runs.proofs.Parts.{same-word}
 
 -- the first s slots are done, and a block starts at s
@@ -28,7 +28,7 @@ within-block s m i e l = rw (← (mod-add-mod s m i), e, zero-add, mod-eq-of-lt 
 around-input : (s k n i : ℕ) → ((s + k) % n + i) % n ≡ (s + i + k) % n
 around-input s k n i = let e : s + k + i ≡ s + i + k = omega arith in mod-add-mod (s + k) n i ∙ ap (λ (x : ℕ). x % n) e
 
-module _ {block input out₀ out : List ℕ} {k s n : ℕ} (w : Blocks block k input out₀) (b : Blocking block k input out₀ out s) (l : s < length out₀) (h : n ≡ min (length block) (length out₀ - s)) where
+module _ {block input out₀ out : List ℕ} {k s n : ℕ} (w : Repeated block k input out₀) (b : Blocking block k input out₀ out s) (l : s < length out₀) (h : n ≡ min (length block) (length out₀ - s)) where
   abbrev part : List ℕ
   part = take (s + n - s) (drop s out)
 

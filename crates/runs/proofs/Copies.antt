@@ -15,7 +15,7 @@ use Rattle.ring.specs.Laws.Divisors.{divides-yes}
 use Rattle.ring.specs.Laws.Refusals.{not-outside, onAccept-accepted}
 use Rattle.diagonals.specs.Calls.{Rotated}
 use Rattle.diagonals.specs.Products.{cell}
-use Rattle.runs.specs.Steps.{diagonalAdded, Blocks}
+use Rattle.runs.specs.Steps.{diagonalAdded, Repeated}
 use Rattle.runs.proofs.Parts.{same-word}
 
 -- copies of a period read at a slot
@@ -41,7 +41,7 @@ whole-divided room n =
 abbrev pub front : List ℕ → List ℕ → ℕ → List ℕ → List ℕ
 front period table room ys = take (wholeOf room (length period)) (ys ++ drop (wholeOf room (length period)) table)
 
-module _ (period table : List ℕ) (room : ℕ) (within : room ≤ length table) (small : length table ≤ 65536) (fits : length period ≤ room) {input out : List ℕ} {k : ℕ} (w : Blocks period k input out) {ys : List ℕ} {r : ℕ} (t : Rotated period (pos 0) (take (wholeOf room (length period)) table) ys r) where
+module _ (period table : List ℕ) (room : ℕ) (within : room ≤ length table) (small : length table ≤ 65536) (fits : length period ≤ room) {input out : List ℕ} {k : ℕ} (w : Repeated period k input out) {ys : List ℕ} {r : ℕ} (t : Rotated period (pos 0) (take (wholeOf room (length period)) table) ys r) where
   accepted : r ≡ 0
   accepted =
       t .answer
@@ -58,7 +58,7 @@ module _ (period table : List ℕ) (room : ℕ) (within : room ≤ length table)
   pub front-length : length (front period table room ys) ≡ wholeOf room (length period)
   front-length = ap length front-is ∙ length-tabulate _ (cell period)
 
-  pub front-asked : Blocks (front period table room ys) k input out
+  pub front-asked : Repeated (front period table room ys) k input out
   front-asked = record { some = rw front-length (whole-some room (length period) (w .some) fits); low = w .low; whole = w .whole }
 
   -- what is added of the copies is the diagonal

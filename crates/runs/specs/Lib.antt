@@ -1,3 +1,5 @@
--- Definitions, in the order of document 01.
+-- Definitions, in the order of document 01; `Steps` has what private steps ask and ensure, `Laws` what is proved of them.
 pub mod Calls
+pub mod Plans
 pub mod Steps
+pub mod Laws

@@ -21,7 +21,8 @@ pub record Run (block input : List ℕ) (from : ℕ) (out : List ℕ) : Type 0 w
 abbrev pub diagonalAdded : List ℕ → ℕ → List ℕ → List ℕ → ℕ → ℕ
 diagonalAdded period k input out s = addm modulus (getD out s 0) (term modulus (length input) input s (record { offset = k; values = period }))
 
-pub record Blocks (period : List ℕ) (k : ℕ) (input out : List ℕ) : Type 0 where
+-- a period of a diagonal of a map, as long as the input and out
+pub record Repeated (period : List ℕ) (k : ℕ) (input out : List ℕ) : Type 0 where
   pub some : 1 ≤ length period
   pub low : k < length out
   pub whole : length input ≡ length out

@@ -1,4 +1,4 @@
-// The plain run (poulpy's linear_transformation.rs): a map times an input, slot by slot. Numbers of
+// The plain run (`evaluate` of poulpy's diagonals.rs): a map times an input, slot by slot. Numbers of
 // refusals are those of document 01.
 ghost use mathlib.Core.Path.{_≡_};
 ghost use Prim.Native.Nat.{_≤_};
@@ -8,7 +8,7 @@ ghost use Rattle.ring.specs.Vectors.{tabulate};
 ghost use Rattle.diagonals.specs.Maps.{view, WellFormed};
 ghost use Rattle.diagonals.specs.Products.{product};
 ghost use Rattle.runs.specs.Calls.{Evaluated};
-ghost use Rattle.runs.specs.Steps.{runAdded, diagonalAdded, Run, Blocks};
+ghost use Rattle.runs.specs.Steps.{runAdded, diagonalAdded, Run, Repeated};
 
 fn clear(out: &mut [u64])
     ensures { λ _. ⌜ now (out .exit) ≡ tabulate (length (now (out .entry))) (λ i. 0) ⌝ }
@@ -34,7 +34,7 @@ fn add_run(block: &[u64], input: &[u64], from: usize, out: &mut [u64])
 
 // Adds block[s mod its length]·input[s + k] to out[s], around the input.
 fn add_blocks(block: &[u64], k: usize, input: &[u64], out: &mut [u64])
-    requires { ⌜ Blocks (now block) k (now input) (now out) ⌝ }
+    requires { ⌜ Repeated (now block) k (now input) (now out) ⌝ }
     ensures { λ _. ⌜ now (out .exit) ≡ tabulate (length (now (out .entry))) (diagonalAdded (now (block .entry)) k (now (input .entry)) (now (out .entry))) ⌝ }
 {
     let slots = out.len();
@@ -51,7 +51,7 @@ fn add_blocks(block: &[u64], k: usize, input: &[u64], out: &mut [u64])
 // Adds a diagonal, given by one period. Where four copies of the period fit the table they are laid
 // out there first, so that runs are long.
 fn add_diagonal(period: &[u64], k: usize, input: &[u64], table: &mut [u64], out: &mut [u64])
-    requires { ⌜ Blocks (now period) k (now input) (now out) ⌝ }
+    requires { ⌜ Repeated (now period) k (now input) (now out) ⌝ }
     requires { ⌜ length (now table) ≤ 65536 ⌝ }
     ensures { λ _. ⌜ now (out .exit) ≡ tabulate (length (now (out .entry))) (diagonalAdded (now (period .entry)) k (now (input .entry)) (now (out .entry))) ⌝ }
 {
@@ -78,15 +78,9 @@ fn multiply(count: usize, pairs: &[u32], values: &[u64], input: &[u64], out: &mu
     let mut start: usize = 0;
     let mut i = 0;
     while i < count {
-        let at = 2 * i;
-        let end = start + ring::wide(pairs[at + 1]);
-        add_diagonal(
-            &values[start..end],
-            ring::wide(pairs[at]),
-            input,
-            &mut table,
-            out,
-        );
+        let end = start + ring::wide(diagonals::length_at(pairs, i));
+        let k = ring::wide(diagonals::offset_at(pairs, i));
+        add_diagonal(&values[start..end], k, input, &mut table, out);
         start = end;
         i += 1;
     }

@@ -1,4 +1,4 @@
--- The records of an answer, told as its numbers.
+-- The stretch that C gets as a copy: its refusals and its answer.
 -- Assumes nothing.
 use Prim.Native.Nat.{ℕ, _≤_, _<_}
 use mathlib.Core.Path.{_≡_, sym, ap, _∙_}
@@ -15,16 +15,8 @@ use Rattle.ring.specs.Laws.Answers.{answered-refused, answered-accepted}
 use Rattle.diagonals.specs.Laws.Calls.{then-refused, then-later}
 use Rattle.ring.specs.Answers.{numbers, answered}
 use Rattle.ring.specs.declared.Answer.{Answer}
-use Rattle.diagonals.specs.Maps.{Diagonal}
-use Rattle.diagonals.specs.Calls.{Judged, MapWritten, Indexes, gotten}
-use Rattle.sibukyaran.specs.Numbers.{told, MapTold, IndexesTold, getRefusal, GetTold}
-use Rattle.sibukyaran.specs.declared.Numbers.{Numbers}
-
-pub map-told : {e : ℕ} {ds : List Diagonal} {pairs₀ pairs₁ values₀ values₁ : List ℕ} {a : Answer} {r : Numbers} → MapWritten e ds pairs₀ pairs₁ values₀ values₁ a → told r ≡ numbers a → MapTold e ds pairs₀ pairs₁ values₀ values₁ r
-map-told w t = record { answer = t ∙ ap numbers (w .answer); pairs = w .pairs; values = w .values }
-
-pub indexes-told : {slots count : ℕ} {pairs values old new : List ℕ} {a : Answer} {r : Numbers} → Indexes slots count pairs values old new a → told r ≡ numbers a → IndexesTold slots count pairs values old new r
-indexes-told w t = record { answer = t ∙ ap numbers (w .answer); out = w .out }
+use Rattle.diagonals.specs.Calls.{Judged, gotten}
+use Rattle.sibukyaran.specs.Numbers.{getRefusal, GetTold}
 
 -- `get`: the map is refused, there is no room, the stretch is in front
 module _ {slots count : ℕ} {pairs values : List ℕ} {r : ℕ} (j : Judged slots count pairs values r) (index : ℤ) (old : List ℕ) where

@@ -3,7 +3,7 @@
 use Prim.Native.Nat.{ℕ}
 use mathlib.Core.Path.{_≡_}
 use mathlib.Core.Bool.{Bool}
-use mathlib.Core.List.{List, [], _∷_, _++_, map}
+use mathlib.Core.List.{List, [], _∷_, _++_}
 use lib.Dec.{ltb}
 use lib.IntN.{ℤ}
 use lib.ListN.{length}
@@ -11,10 +11,7 @@ use Rattle.ring.specs.Vectors.{inFront}
 use Rattle.ring.specs.Refusals.{firstOf, onAccept}
 use Rattle.ring.specs.Answers.{numbers, answered}
 use Rattle.ring.specs.declared.Answer.{Answer}
-use Rattle.diagonals.specs.Maps.{Diagonal, view}
-use Rattle.diagonals.specs.Setting.{pairWords, valueWords}
-use Rattle.diagonals.specs.Calls.{mapRefusals, gotten, indexesRefusal}
-use Rattle.maps.specs.Calls.{ShrunkWritten, ValuesWritten}
+use Rattle.diagonals.specs.Calls.{mapRefusals, gotten}
 use Rattle.sibukyaran.specs.declared.Numbers.{Numbers}
 use Rattle.sibukyaran.specs.declared.Truth.{Truth}
 use Rattle.linear_transformation.specs.declared.LinearTransformationStrategy.{LinearTransformationStrategy}
@@ -22,7 +19,7 @@ use Rattle.linear_transformation.specs.declared.plan.PlanAnswer.{PlanAnswer}
 use Rattle.linear_transformation.specs.declared.rotations.BsgsRotations.{BsgsRotations}
 use Rattle.linear_transformation.specs.declared.rotations.PassesAnswer.{PassesAnswer}
 use Rattle.linear_transformation.specs.declared.rotations.TreeAnswer.{TreeAnswer}
-use Rattle.linear_transformation.specs.Calls.{ListWritten, planNumbers, PlanWritten, passNumbers, PassesWritten, treeNumbers, TreeWritten}
+use Rattle.linear_transformation.specs.Calls.{planNumbers, PlanWritten, passNumbers, PassesWritten, treeNumbers, TreeWritten}
 use Rattle.sibukyaran.specs.declared.SignedDigit.{SignedDigit}
 use Rattle.sibukyaran.specs.declared.PlanNumbers.{PlanNumbers}
 use Rattle.sibukyaran.specs.declared.PassNumbers.{PassNumbers}
@@ -37,16 +34,11 @@ toldTruth r = (r .refusal, r .value)
 abbrev pub toldDigit : SignedDigit → ℕ × ℤ
 toldDigit r = (r .refusal, r .value)
 
--- a call with refusal e that writes the map ds
-pub record MapTold (e : ℕ) (ds : List Diagonal) (pairs₀ pairs₁ values₀ values₁ : List ℕ) (r : Numbers) : Type 0 where
-  pub answer : told r ≡ numbers (answered e (length ds))
-  pub pairs : pairs₁ ≡ onAccept e (inFront (pairWords ds) pairs₀) pairs₀
-  pub values : values₁ ≡ onAccept e (inFront (valueWords ds) values₀) values₀
-
--- `indexes`
-pub record IndexesTold (slots count : ℕ) (pairs values old new : List ℕ) (r : Numbers) : Type 0 where
-  pub answer : told r ≡ numbers (answered (indexesRefusal slots count pairs values old) count)
-  pub out : new ≡ onAccept (indexesRefusal slots count pairs values old) (inFront (map (λ d. d .offset) (view count pairs values)) old) old
+-- what a call of the crate below leaves, its answer told by its numbers
+pub record Told (W : Answer → Type 0) (r : Numbers) : Type 0 where
+  pub answer : Answer
+  pub tells : told r ≡ numbers answer
+  pub written : W answer
 
 -- `get`, its stretch in front of out
 abbrev pub getRefusal : ℕ → ℕ → List ℕ → List ℕ → ℤ → List ℕ → ℕ
@@ -68,12 +60,6 @@ toldPasses r = r .refusal ∷ r .passes ∷ r .moves ∷ []
 abbrev pub toldTree : TreeNumbers → List ℕ
 toldTree r = r .refusal ∷ r .bits ∷ r .pairs ∷ []
 
--- what a call of the crate below leaves, its answer told by its numbers
-pub record ListTold (cs : List (Bool × ℕ)) (result old new : List ℕ) (r : Numbers) : Type 0 where
-  pub answer : Answer
-  pub tells : told r ≡ numbers answer
-  pub written : ListWritten cs result old new answer
-
 pub record PlanTold (slots : ℕ) (strategy : LinearTransformationStrategy) (indexes : List ℤ) (old new : List ℕ) (r : PlanNumbers) : Type 0 where
   pub answer : PlanAnswer
   pub tells : toldPlan r ≡ planNumbers answer
@@ -88,15 +74,3 @@ pub record TreeTold (rotations : BsgsRotations) (gs : List ℤ) (leaves leaves' 
   pub answer : TreeAnswer
   pub tells : toldTree r ≡ treeNumbers answer
   pub written : TreeWritten rotations gs leaves leaves' levels levels' pairs pairs' answer
-
--- ---- matrix maps
-
-pub record ShrunkTold (e : ℕ) (whole : List Diagonal) (pairs₀ pairs₁ values₀ values₁ : List ℕ) (r : Numbers) : Type 0 where
-  pub answer : Answer
-  pub tells : told r ≡ numbers answer
-  pub written : ShrunkWritten e whole pairs₀ pairs₁ values₀ values₁ answer
-
-pub record ValuesTold (rows : Bool) (logD count : ℕ) (b old new : List ℕ) (r : Numbers) : Type 0 where
-  pub answer : Answer
-  pub tells : told r ≡ numbers answer
-  pub written : ValuesWritten rows logD count b old new answer

@@ -1,14 +1,12 @@
 // The matrix maps. Each writes a map in front of pairs and values.
-ghost use mathlib.Core.Path.{_≡_};
 ghost use mathlib.Core.Bool.{true, false};
 ghost use Prim.Native.Nat.{_^_};
 ghost use Rattle.maps.specs.declared.rules.Rule.the-variants.{Sigma, Tau, Transpose, RotateRows, RotateCols, RowsUpper, RowsLower, ColsLeft, ColsRight, RowsLeft, RowsRight};
 ghost use Rattle.maps.specs.declared.rules.Product.the-variants.{RightMul, LeftMul, RightJkls, LeftJkls};
-ghost use Rattle.maps.specs.Readings.{wholeMap, tauRep, rotateRowsRep};
-ghost use Rattle.maps.specs.Sums.{productMap, leftMulRep};
-ghost use Rattle.maps.specs.Values.{slotProduct, firstRow, firstCol};
-ghost use Rattle.maps.specs.Calls.{ruleRefusal, perMatrixRefusal, matrixTermsMap, productRefusal, leftMulRepRefusal, tiledRefusal, rowsRepRefusal, slotProductRefusal};
-ghost use Rattle.sibukyaran.specs.Numbers.{MapTold, ShrunkTold, ValuesTold};
+ghost use Rattle.maps.specs.Readings.{tauRep};
+ghost use Rattle.maps.specs.Values.{firstRow, firstCol};
+ghost use Rattle.maps.specs.Calls.{RuleWritten, PerMatrixWritten, ProductWritten, LeftMulRepWritten, TiledWritten, RowsRepWritten, SlotProductWritten, ValuesWritten};
+ghost use Rattle.sibukyaran.specs.Numbers.{Told};
 
 #[no_mangle]
 pub extern "C" fn sibukyaran_sigma(
@@ -17,7 +15,7 @@ pub extern "C" fn sibukyaran_sigma(
     pairs: &mut [u32],
     values: &mut [u64],
 ) -> crate::Numbers
-    ensures { λ r. ⌜ ShrunkTold (ruleRefusal slots «log_d» Sigma (now (pairs .entry)) (now (values .entry))) (wholeMap slots (2 ^ «log_d») Sigma) (now (pairs .entry)) (now (pairs .exit)) (now (values .entry)) (now (values .exit)) r ⌝ }
+    ensures { λ r. ⌜ Told (RuleWritten slots «log_d» Sigma (now (pairs .entry)) (now (pairs .exit)) (now (values .entry)) (now (values .exit))) r ⌝ }
 {
     crate::numbers_of(maps::sigma(slots, log_d, pairs, values))
 }
@@ -29,7 +27,7 @@ pub extern "C" fn sibukyaran_tau(
     pairs: &mut [u32],
     values: &mut [u64],
 ) -> crate::Numbers
-    ensures { λ r. ⌜ ShrunkTold (ruleRefusal slots «log_d» Tau (now (pairs .entry)) (now (values .entry))) (wholeMap slots (2 ^ «log_d») Tau) (now (pairs .entry)) (now (pairs .exit)) (now (values .entry)) (now (values .exit)) r ⌝ }
+    ensures { λ r. ⌜ Told (RuleWritten slots «log_d» Tau (now (pairs .entry)) (now (pairs .exit)) (now (values .entry)) (now (values .exit))) r ⌝ }
 {
     crate::numbers_of(maps::tau(slots, log_d, pairs, values))
 }
@@ -41,7 +39,7 @@ pub extern "C" fn sibukyaran_transpose_matrices(
     pairs: &mut [u32],
     values: &mut [u64],
 ) -> crate::Numbers
-    ensures { λ r. ⌜ ShrunkTold (ruleRefusal slots «log_d» Transpose (now (pairs .entry)) (now (values .entry))) (wholeMap slots (2 ^ «log_d») Transpose) (now (pairs .entry)) (now (pairs .exit)) (now (values .entry)) (now (values .exit)) r ⌝ }
+    ensures { λ r. ⌜ Told (RuleWritten slots «log_d» Transpose (now (pairs .entry)) (now (pairs .exit)) (now (values .entry)) (now (values .exit))) r ⌝ }
 {
     crate::numbers_of(maps::transpose(slots, log_d, pairs, values))
 }
@@ -54,7 +52,7 @@ pub extern "C" fn sibukyaran_rotate_rows(
     pairs: &mut [u32],
     values: &mut [u64],
 ) -> crate::Numbers
-    ensures { λ r. ⌜ ShrunkTold (ruleRefusal slots «log_d» (RotateRows k) (now (pairs .entry)) (now (values .entry))) (wholeMap slots (2 ^ «log_d») (RotateRows k)) (now (pairs .entry)) (now (pairs .exit)) (now (values .entry)) (now (values .exit)) r ⌝ }
+    ensures { λ r. ⌜ Told (RuleWritten slots «log_d» (RotateRows k) (now (pairs .entry)) (now (pairs .exit)) (now (values .entry)) (now (values .exit))) r ⌝ }
 {
     crate::numbers_of(maps::rotate_rows(slots, log_d, k, pairs, values))
 }
@@ -67,7 +65,7 @@ pub extern "C" fn sibukyaran_rotate_cols(
     pairs: &mut [u32],
     values: &mut [u64],
 ) -> crate::Numbers
-    ensures { λ r. ⌜ ShrunkTold (ruleRefusal slots «log_d» (RotateCols k) (now (pairs .entry)) (now (values .entry))) (wholeMap slots (2 ^ «log_d») (RotateCols k)) (now (pairs .entry)) (now (pairs .exit)) (now (values .entry)) (now (values .exit)) r ⌝ }
+    ensures { λ r. ⌜ Told (RuleWritten slots «log_d» (RotateCols k) (now (pairs .entry)) (now (pairs .exit)) (now (values .entry)) (now (values .exit))) r ⌝ }
 {
     crate::numbers_of(maps::rotate_cols(slots, log_d, k, pairs, values))
 }
@@ -80,7 +78,7 @@ pub extern "C" fn sibukyaran_rows_upper(
     pairs: &mut [u32],
     values: &mut [u64],
 ) -> crate::Numbers
-    ensures { λ r. ⌜ ShrunkTold (ruleRefusal slots «log_d» (RowsUpper k) (now (pairs .entry)) (now (values .entry))) (wholeMap slots (2 ^ «log_d») (RowsUpper k)) (now (pairs .entry)) (now (pairs .exit)) (now (values .entry)) (now (values .exit)) r ⌝ }
+    ensures { λ r. ⌜ Told (RuleWritten slots «log_d» (RowsUpper k) (now (pairs .entry)) (now (pairs .exit)) (now (values .entry)) (now (values .exit))) r ⌝ }
 {
     crate::numbers_of(maps::rows_upper(slots, log_d, k, pairs, values))
 }
@@ -93,7 +91,7 @@ pub extern "C" fn sibukyaran_rows_lower(
     pairs: &mut [u32],
     values: &mut [u64],
 ) -> crate::Numbers
-    ensures { λ r. ⌜ ShrunkTold (ruleRefusal slots «log_d» (RowsLower k) (now (pairs .entry)) (now (values .entry))) (wholeMap slots (2 ^ «log_d») (RowsLower k)) (now (pairs .entry)) (now (pairs .exit)) (now (values .entry)) (now (values .exit)) r ⌝ }
+    ensures { λ r. ⌜ Told (RuleWritten slots «log_d» (RowsLower k) (now (pairs .entry)) (now (pairs .exit)) (now (values .entry)) (now (values .exit))) r ⌝ }
 {
     crate::numbers_of(maps::rows_lower(slots, log_d, k, pairs, values))
 }
@@ -106,7 +104,7 @@ pub extern "C" fn sibukyaran_cols_left(
     pairs: &mut [u32],
     values: &mut [u64],
 ) -> crate::Numbers
-    ensures { λ r. ⌜ ShrunkTold (ruleRefusal slots «log_d» (ColsLeft k) (now (pairs .entry)) (now (values .entry))) (wholeMap slots (2 ^ «log_d») (ColsLeft k)) (now (pairs .entry)) (now (pairs .exit)) (now (values .entry)) (now (values .exit)) r ⌝ }
+    ensures { λ r. ⌜ Told (RuleWritten slots «log_d» (ColsLeft k) (now (pairs .entry)) (now (pairs .exit)) (now (values .entry)) (now (values .exit))) r ⌝ }
 {
     crate::numbers_of(maps::cols_left(slots, log_d, k, pairs, values))
 }
@@ -119,7 +117,7 @@ pub extern "C" fn sibukyaran_cols_right(
     pairs: &mut [u32],
     values: &mut [u64],
 ) -> crate::Numbers
-    ensures { λ r. ⌜ ShrunkTold (ruleRefusal slots «log_d» (ColsRight k) (now (pairs .entry)) (now (values .entry))) (wholeMap slots (2 ^ «log_d») (ColsRight k)) (now (pairs .entry)) (now (pairs .exit)) (now (values .entry)) (now (values .exit)) r ⌝ }
+    ensures { λ r. ⌜ Told (RuleWritten slots «log_d» (ColsRight k) (now (pairs .entry)) (now (pairs .exit)) (now (values .entry)) (now (values .exit))) r ⌝ }
 {
     crate::numbers_of(maps::cols_right(slots, log_d, k, pairs, values))
 }
@@ -132,7 +130,7 @@ pub extern "C" fn sibukyaran_rows_left(
     pairs: &mut [u32],
     values: &mut [u64],
 ) -> crate::Numbers
-    ensures { λ r. ⌜ ShrunkTold (ruleRefusal slots «log_d» (RowsLeft k) (now (pairs .entry)) (now (values .entry))) (wholeMap slots (2 ^ «log_d») (RowsLeft k)) (now (pairs .entry)) (now (pairs .exit)) (now (values .entry)) (now (values .exit)) r ⌝ }
+    ensures { λ r. ⌜ Told (RuleWritten slots «log_d» (RowsLeft k) (now (pairs .entry)) (now (pairs .exit)) (now (values .entry)) (now (values .exit))) r ⌝ }
 {
     crate::numbers_of(maps::rows_left(slots, log_d, k, pairs, values))
 }
@@ -145,7 +143,7 @@ pub extern "C" fn sibukyaran_rows_right(
     pairs: &mut [u32],
     values: &mut [u64],
 ) -> crate::Numbers
-    ensures { λ r. ⌜ ShrunkTold (ruleRefusal slots «log_d» (RowsRight k) (now (pairs .entry)) (now (values .entry))) (wholeMap slots (2 ^ «log_d») (RowsRight k)) (now (pairs .entry)) (now (pairs .exit)) (now (values .entry)) (now (values .exit)) r ⌝ }
+    ensures { λ r. ⌜ Told (RuleWritten slots «log_d» (RowsRight k) (now (pairs .entry)) (now (pairs .exit)) (now (values .entry)) (now (values .exit))) r ⌝ }
 {
     crate::numbers_of(maps::rows_right(slots, log_d, k, pairs, values))
 }
@@ -159,7 +157,7 @@ pub extern "C" fn sibukyaran_right_mul(
     pairs: &mut [u32],
     values: &mut [u64],
 ) -> crate::Numbers
-    ensures { λ r. ⌜ MapTold (productRefusal slots «log_d» count RightMul (now (b .entry)) (now (pairs .entry)) (now (values .entry))) (productMap slots (2 ^ «log_d») count RightMul (now (b .entry))) (now (pairs .entry)) (now (pairs .exit)) (now (values .entry)) (now (values .exit)) r ⌝ }
+    ensures { λ r. ⌜ Told (ProductWritten slots «log_d» count RightMul (now (b .entry)) (now (pairs .entry)) (now (pairs .exit)) (now (values .entry)) (now (values .exit))) r ⌝ }
 {
     crate::numbers_of(maps::right_mul(slots, log_d, count, b, pairs, values))
 }
@@ -173,7 +171,7 @@ pub extern "C" fn sibukyaran_left_mul(
     pairs: &mut [u32],
     values: &mut [u64],
 ) -> crate::Numbers
-    ensures { λ r. ⌜ MapTold (productRefusal slots «log_d» count LeftMul (now (b .entry)) (now (pairs .entry)) (now (values .entry))) (productMap slots (2 ^ «log_d») count LeftMul (now (b .entry))) (now (pairs .entry)) (now (pairs .exit)) (now (values .entry)) (now (values .exit)) r ⌝ }
+    ensures { λ r. ⌜ Told (ProductWritten slots «log_d» count LeftMul (now (b .entry)) (now (pairs .entry)) (now (pairs .exit)) (now (values .entry)) (now (values .exit))) r ⌝ }
 {
     crate::numbers_of(maps::left_mul(slots, log_d, count, b, pairs, values))
 }
@@ -187,7 +185,7 @@ pub extern "C" fn sibukyaran_right_jkls(
     pairs: &mut [u32],
     values: &mut [u64],
 ) -> crate::Numbers
-    ensures { λ r. ⌜ MapTold (productRefusal slots «log_d» count RightJkls (now (b .entry)) (now (pairs .entry)) (now (values .entry))) (productMap slots (2 ^ «log_d») count RightJkls (now (b .entry))) (now (pairs .entry)) (now (pairs .exit)) (now (values .entry)) (now (values .exit)) r ⌝ }
+    ensures { λ r. ⌜ Told (ProductWritten slots «log_d» count RightJkls (now (b .entry)) (now (pairs .entry)) (now (pairs .exit)) (now (values .entry)) (now (values .exit))) r ⌝ }
 {
     crate::numbers_of(maps::right_jkls(slots, log_d, count, b, pairs, values))
 }
@@ -201,7 +199,7 @@ pub extern "C" fn sibukyaran_left_jkls(
     pairs: &mut [u32],
     values: &mut [u64],
 ) -> crate::Numbers
-    ensures { λ r. ⌜ MapTold (productRefusal slots «log_d» count LeftJkls (now (b .entry)) (now (pairs .entry)) (now (values .entry))) (productMap slots (2 ^ «log_d») count LeftJkls (now (b .entry))) (now (pairs .entry)) (now (pairs .exit)) (now (values .entry)) (now (values .exit)) r ⌝ }
+    ensures { λ r. ⌜ Told (ProductWritten slots «log_d» count LeftJkls (now (b .entry)) (now (pairs .entry)) (now (pairs .exit)) (now (values .entry)) (now (values .exit))) r ⌝ }
 {
     crate::numbers_of(maps::left_jkls(slots, log_d, count, b, pairs, values))
 }
@@ -214,7 +212,7 @@ pub extern "C" fn sibukyaran_left_mul_rep(
     pairs: &mut [u32],
     values: &mut [u64],
 ) -> crate::Numbers
-    ensures { λ r. ⌜ MapTold (leftMulRepRefusal slots «log_d» (now (b .entry)) (now (pairs .entry)) (now (values .entry))) (leftMulRep (2 ^ «log_d») (now (b .entry))) (now (pairs .entry)) (now (pairs .exit)) (now (values .entry)) (now (values .exit)) r ⌝ }
+    ensures { λ r. ⌜ Told (LeftMulRepWritten slots «log_d» (now (b .entry)) (now (pairs .entry)) (now (pairs .exit)) (now (values .entry)) (now (values .exit))) r ⌝ }
 {
     crate::numbers_of(maps::left_mul_rep(slots, log_d, b, pairs, values))
 }
@@ -226,7 +224,7 @@ pub extern "C" fn sibukyaran_tau_rep(
     pairs: &mut [u32],
     values: &mut [u64],
 ) -> crate::Numbers
-    ensures { λ r. ⌜ MapTold (tiledRefusal slots «log_d» (tauRep (2 ^ «log_d»)) (now (pairs .entry)) (now (values .entry))) (tauRep (2 ^ «log_d»)) (now (pairs .entry)) (now (pairs .exit)) (now (values .entry)) (now (values .exit)) r ⌝ }
+    ensures { λ r. ⌜ Told (TiledWritten slots «log_d» (tauRep (2 ^ «log_d»)) (now (pairs .entry)) (now (pairs .exit)) (now (values .entry)) (now (values .exit))) r ⌝ }
 {
     crate::numbers_of(maps::tau_rep(slots, log_d, pairs, values))
 }
@@ -238,7 +236,7 @@ pub extern "C" fn sibukyaran_first_row(
     pairs: &mut [u32],
     values: &mut [u64],
 ) -> crate::Numbers
-    ensures { λ r. ⌜ MapTold (tiledRefusal slots «log_d» (firstRow (2 ^ «log_d»)) (now (pairs .entry)) (now (values .entry))) (firstRow (2 ^ «log_d»)) (now (pairs .entry)) (now (pairs .exit)) (now (values .entry)) (now (values .exit)) r ⌝ }
+    ensures { λ r. ⌜ Told (TiledWritten slots «log_d» (firstRow (2 ^ «log_d»)) (now (pairs .entry)) (now (pairs .exit)) (now (values .entry)) (now (values .exit))) r ⌝ }
 {
     crate::numbers_of(maps::first_row(slots, log_d, pairs, values))
 }
@@ -250,7 +248,7 @@ pub extern "C" fn sibukyaran_first_col(
     pairs: &mut [u32],
     values: &mut [u64],
 ) -> crate::Numbers
-    ensures { λ r. ⌜ MapTold (tiledRefusal slots «log_d» (firstCol (2 ^ «log_d»)) (now (pairs .entry)) (now (values .entry))) (firstCol (2 ^ «log_d»)) (now (pairs .entry)) (now (pairs .exit)) (now (values .entry)) (now (values .exit)) r ⌝ }
+    ensures { λ r. ⌜ Told (TiledWritten slots «log_d» (firstCol (2 ^ «log_d»)) (now (pairs .entry)) (now (pairs .exit)) (now (values .entry)) (now (values .exit))) r ⌝ }
 {
     crate::numbers_of(maps::first_col(slots, log_d, pairs, values))
 }
@@ -263,7 +261,7 @@ pub extern "C" fn sibukyaran_rotate_rows_rep(
     pairs: &mut [u32],
     values: &mut [u64],
 ) -> crate::Numbers
-    ensures { λ r. ⌜ MapTold (rowsRepRefusal slots «log_d» k (now (pairs .entry)) (now (values .entry))) (rotateRowsRep slots (2 ^ «log_d») k) (now (pairs .entry)) (now (pairs .exit)) (now (values .entry)) (now (values .exit)) r ⌝ }
+    ensures { λ r. ⌜ Told (RowsRepWritten slots «log_d» k (now (pairs .entry)) (now (pairs .exit)) (now (values .entry)) (now (values .exit))) r ⌝ }
 {
     crate::numbers_of(maps::rotate_rows_rep(slots, log_d, k, pairs, values))
 }
@@ -276,7 +274,7 @@ pub extern "C" fn sibukyaran_slot_product(
     pairs: &mut [u32],
     values: &mut [u64],
 ) -> crate::Numbers
-    ensures { λ r. ⌜ MapTold (slotProductRefusal slots (now (v .entry)) rotation (now (pairs .entry)) (now (values .entry))) (slotProduct (now (v .entry)) rotation) (now (pairs .entry)) (now (pairs .exit)) (now (values .entry)) (now (values .exit)) r ⌝ }
+    ensures { λ r. ⌜ Told (SlotProductWritten slots (now (v .entry)) rotation (now (pairs .entry)) (now (pairs .exit)) (now (values .entry)) (now (values .exit))) r ⌝ }
 {
     crate::numbers_of(maps::slot_product(slots, v, rotation, pairs, values))
 }
@@ -291,7 +289,7 @@ pub extern "C" fn sibukyaran_per_matrix_map(
     pairs: &mut [u32],
     values: &mut [u64],
 ) -> crate::Numbers
-    ensures { λ r. ⌜ ShrunkTold (perMatrixRefusal slots «log_d» (now (is .entry)) (now (js .entry)) (now (ws .entry)) (now (pairs .entry)) (now (values .entry))) (matrixTermsMap slots «log_d» (now (is .entry)) (now (js .entry)) (now (ws .entry))) (now (pairs .entry)) (now (pairs .exit)) (now (values .entry)) (now (values .exit)) r ⌝ }
+    ensures { λ r. ⌜ Told (PerMatrixWritten slots «log_d» (now (is .entry)) (now (js .entry)) (now (ws .entry)) (now (pairs .entry)) (now (pairs .exit)) (now (values .entry)) (now (values .exit))) r ⌝ }
 {
     crate::numbers_of(maps::per_matrix_map(slots, log_d, is, js, ws, pairs, values))
 }
@@ -303,7 +301,7 @@ pub extern "C" fn sibukyaran_tau_values(
     b: &[u64],
     out: &mut [u64],
 ) -> crate::Numbers
-    ensures { λ r. ⌜ ValuesTold true «log_d» count (now (b .entry)) (now (out .entry)) (now (out .exit)) r ⌝ }
+    ensures { λ r. ⌜ Told (ValuesWritten true «log_d» count (now (b .entry)) (now (out .entry)) (now (out .exit))) r ⌝ }
 {
     crate::numbers_of(maps::tau_values(log_d, count, b, out))
 }
@@ -315,7 +313,7 @@ pub extern "C" fn sibukyaran_sigma_values(
     b: &[u64],
     out: &mut [u64],
 ) -> crate::Numbers
-    ensures { λ r. ⌜ ValuesTold false «log_d» count (now (b .entry)) (now (out .entry)) (now (out .exit)) r ⌝ }
+    ensures { λ r. ⌜ Told (ValuesWritten false «log_d» count (now (b .entry)) (now (out .entry)) (now (out .exit))) r ⌝ }
 {
     crate::numbers_of(maps::sigma_values(log_d, count, b, out))
 }

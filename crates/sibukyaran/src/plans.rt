@@ -1,17 +1,16 @@
 // Plans: diagonal indexes, baby multiples and giant digits.
 ghost use mathlib.Core.Path.{_≡_};
-ghost use Rattle.ring.specs.Residues.{residueOf};
+ghost use Rattle.ring.specs.Residues.{residueOf, diagonalsOf};
 ghost use Rattle.ring.specs.Answers.{numbers, answered};
 ghost use Rattle.linear_transformation.specs.Digits.{digit, rotOf};
-ghost use Rattle.linear_transformation.specs.Rotations.{babyMultiple};
+ghost use Rattle.linear_transformation.specs.Listed.{babyMultiple};
 ghost use Rattle.linear_transformation.specs.declared.LinearTransformationStrategy.the-variants.{Bsgs, BsgsPowersOfTwo};
-ghost use Rattle.linear_transformation.specs.Plans.{diagonalsOf};
 ghost use Rattle.linear_transformation.specs.Schedules.{babyStep, planBabies, planKeys, planSwitches};
 ghost use Rattle.linear_transformation.specs.Widths.{bestWidth};
-ghost use Rattle.linear_transformation.specs.Calls.{normalizeRefusal, babyRefusal, planRefusals, digitRefusal, digitNumbers, digitAnswered};
+ghost use Rattle.linear_transformation.specs.Calls.{ListWritten, normalizeRefusal, babyRefusal, planRefusals, digitRefusal, digitNumbers, digitAnswered};
 ghost use Rattle.ring.specs.Refusals.{firstOf};
 ghost use Rattle.sibukyaran.specs.Kinds.{strategyOf};
-ghost use Rattle.sibukyaran.specs.Numbers.{told, toldDigit, ListTold, PlanTold};
+ghost use Rattle.sibukyaran.specs.Numbers.{told, toldDigit, Told, PlanTold};
 
 #[no_mangle]
 pub extern "C" fn sibukyaran_normalize_linear_transform_diagonal(
@@ -76,7 +75,7 @@ pub extern "C" fn sibukyaran_baby_steps(
     giant_step: usize,
     out: &mut [u32],
 ) -> crate::Numbers
-    ensures { λ r. ⌜ ListTold (planRefusals slots (strategyOf strategy «giant_step»)) (planBabies slots (strategyOf strategy «giant_step») (diagonalsOf slots (now (indexes .entry)))) (now (out .entry)) (now (out .exit)) r ⌝ }
+    ensures { λ r. ⌜ Told (ListWritten (planRefusals slots (strategyOf strategy «giant_step»)) (planBabies slots (strategyOf strategy «giant_step») (diagonalsOf slots (now (indexes .entry)))) (now (out .entry)) (now (out .exit))) r ⌝ }
 {
     let how = crate::kinds::strategy_of(strategy, giant_step);
     crate::numbers_of(linear_transformation::baby_steps(indexes, slots, how, out))
@@ -101,7 +100,7 @@ pub extern "C" fn sibukyaran_plan_key_rotations(
     giant_step: usize,
     out: &mut [u32],
 ) -> crate::Numbers
-    ensures { λ r. ⌜ ListTold (planRefusals slots (strategyOf strategy «giant_step»)) (planKeys slots (strategyOf strategy «giant_step») (diagonalsOf slots (now (indexes .entry)))) (now (out .entry)) (now (out .exit)) r ⌝ }
+    ensures { λ r. ⌜ Told (ListWritten (planRefusals slots (strategyOf strategy «giant_step»)) (planKeys slots (strategyOf strategy «giant_step») (diagonalsOf slots (now (indexes .entry)))) (now (out .entry)) (now (out .exit))) r ⌝ }
 {
     let how = crate::kinds::strategy_of(strategy, giant_step);
     crate::numbers_of(linear_transformation::plan_key_rotations(indexes, slots, how, out))

@@ -2,9 +2,10 @@
 ghost use mathlib.Core.Path.{_≡_};
 ghost use Rattle.ring.specs.Refusals.{firstOf};
 ghost use Rattle.ring.specs.Answers.{numbers, answered};
-ghost use Rattle.linear_transformation.specs.Rotations.{babyRefusals, closureOf, babyKeysOf, giantRefusals, giantKeysOf, giantSwitchesOf};
+ghost use Rattle.linear_transformation.specs.Calls.{ListWritten};
+ghost use Rattle.linear_transformation.specs.Listed.{babyRefusals, closureOf, babyKeysOf, giantRefusals, giantKeysOf, giantSwitchesOf};
 ghost use Rattle.sibukyaran.specs.Kinds.{rotationsOf};
-ghost use Rattle.sibukyaran.specs.Numbers.{told, ListTold, PassesTold, TreeTold};
+ghost use Rattle.sibukyaran.specs.Numbers.{told, Told, PassesTold, TreeTold};
 
 #[no_mangle]
 pub extern "C" fn sibukyaran_baby_closure(
@@ -15,7 +16,7 @@ pub extern "C" fn sibukyaran_baby_closure(
     babies: &[i64],
     out: &mut [u32],
 ) -> crate::Numbers
-    ensures { λ r. ⌜ ListTold (babyRefusals (rotationsOf rotations «baby_step» «giant_step» slots) (now (babies .entry))) (closureOf (rotationsOf rotations «baby_step» «giant_step» slots) (now (babies .entry))) (now (out .entry)) (now (out .exit)) r ⌝ }
+    ensures { λ r. ⌜ Told (ListWritten (babyRefusals (rotationsOf rotations «baby_step» «giant_step» slots) (now (babies .entry))) (closureOf (rotationsOf rotations «baby_step» «giant_step» slots) (now (babies .entry))) (now (out .entry)) (now (out .exit))) r ⌝ }
 {
     let how = crate::kinds::rotations_of(rotations, baby_step, giant_step, slots);
     crate::numbers_of(linear_transformation::baby_closure(how, babies, out))
@@ -30,7 +31,7 @@ pub extern "C" fn sibukyaran_baby_key_rotations(
     babies: &[i64],
     out: &mut [u32],
 ) -> crate::Numbers
-    ensures { λ r. ⌜ ListTold (babyRefusals (rotationsOf rotations «baby_step» «giant_step» slots) (now (babies .entry))) (babyKeysOf (rotationsOf rotations «baby_step» «giant_step» slots) (now (babies .entry))) (now (out .entry)) (now (out .exit)) r ⌝ }
+    ensures { λ r. ⌜ Told (ListWritten (babyRefusals (rotationsOf rotations «baby_step» «giant_step» slots) (now (babies .entry))) (babyKeysOf (rotationsOf rotations «baby_step» «giant_step» slots) (now (babies .entry))) (now (out .entry)) (now (out .exit))) r ⌝ }
 {
     let how = crate::kinds::rotations_of(rotations, baby_step, giant_step, slots);
     crate::numbers_of(linear_transformation::baby_key_rotations(how, babies, out))
@@ -45,7 +46,7 @@ pub extern "C" fn sibukyaran_giant_key_rotations(
     giants: &[i64],
     out: &mut [u32],
 ) -> crate::Numbers
-    ensures { λ r. ⌜ ListTold (giantRefusals (rotationsOf rotations «baby_step» «giant_step» slots) (now (giants .entry))) (giantKeysOf (rotationsOf rotations «baby_step» «giant_step» slots) (now (giants .entry))) (now (out .entry)) (now (out .exit)) r ⌝ }
+    ensures { λ r. ⌜ Told (ListWritten (giantRefusals (rotationsOf rotations «baby_step» «giant_step» slots) (now (giants .entry))) (giantKeysOf (rotationsOf rotations «baby_step» «giant_step» slots) (now (giants .entry))) (now (out .entry)) (now (out .exit))) r ⌝ }
 {
     let how = crate::kinds::rotations_of(rotations, baby_step, giant_step, slots);
     crate::numbers_of(linear_transformation::giant_key_rotations(how, giants, out))

@@ -6,13 +6,10 @@ ghost use lib.ListN.{length};
 ghost use Rattle.ring.specs.Vectors.{inFront};
 ghost use Rattle.ring.specs.Answers.{numbers, answered};
 ghost use Rattle.diagonals.specs.Maps.{view};
-ghost use Rattle.diagonals.specs.SlotMaps.{termsOf, slotMap};
-ghost use Rattle.diagonals.specs.Shrinking.{shrunk};
-ghost use Rattle.diagonals.specs.Transposing.{transposed};
-ghost use Rattle.diagonals.specs.Calls.{newRefusal, mapRefusal, gotten, setRefusal, setMap, slotMapRefusal, secondRefusal, truths, tested, Judged, Rotated};
+ghost use Rattle.diagonals.specs.Calls.{newRefusal, mapRefusal, gotten, truths, tested, Judged, Indexes, SetWritten, SlotMapWritten, ShrinkWritten, TransposeWritten, Rotated};
 ghost use Rattle.runs.specs.Calls.{Evaluated};
 ghost use Rattle.sibukyaran.specs.Kinds.{strategyOf};
-ghost use Rattle.sibukyaran.specs.Numbers.{told, toldTruth, MapTold, IndexesTold, GetTold};
+ghost use Rattle.sibukyaran.specs.Numbers.{told, toldTruth, Told, GetTold};
 
 #[no_mangle]
 pub extern "C" fn sibukyaran_new(slots: usize) -> crate::Numbers
@@ -53,7 +50,7 @@ pub extern "C" fn sibukyaran_indexes(
     values: &[u64],
     out: &mut [u32],
 ) -> crate::Numbers
-    ensures { λ r. ⌜ IndexesTold slots count (now (pairs .entry)) (now (values .entry)) (now (out .entry)) (now (out .exit)) r ⌝ }
+    ensures { λ r. ⌜ Told (Indexes slots count (now (pairs .entry)) (now (values .entry)) (now (out .entry)) (now (out .exit))) r ⌝ }
 {
     crate::numbers_of(diagonals::indexes(slots, count, pairs, values, out))
 }
@@ -80,7 +77,7 @@ pub extern "C" fn sibukyaran_set(
     index: i64,
     new: &[u64],
 ) -> crate::Numbers
-    ensures { λ r. ⌜ MapTold (setRefusal slots count (now (pairs .entry)) (now (values .entry)) index (now (new .entry))) (setMap slots count (now (pairs .entry)) (now (values .entry)) index (now (new .entry))) (now (pairs .entry)) (now (pairs .exit)) (now (values .entry)) (now (values .exit)) r ⌝ }
+    ensures { λ r. ⌜ Told (SetWritten slots count (now (pairs .entry)) (now (pairs .exit)) (now (values .entry)) (now (values .exit)) index (now (new .entry))) r ⌝ }
 {
     crate::numbers_of(diagonals::set(slots, count, pairs, values, index, new))
 }
@@ -95,7 +92,7 @@ pub extern "C" fn sibukyaran_from_slot_map(
     pairs: &mut [u32],
     values: &mut [u64],
 ) -> crate::Numbers
-    ensures { λ r. ⌜ MapTold (slotMapRefusal slots period (now (is .entry)) (now (js .entry)) (now (ws .entry)) (now (pairs .entry)) (now (values .entry))) (slotMap slots period (termsOf (now (is .entry)) (now (js .entry)) (now (ws .entry)))) (now (pairs .entry)) (now (pairs .exit)) (now (values .entry)) (now (values .exit)) r ⌝ }
+    ensures { λ r. ⌜ Told (SlotMapWritten slots period (now (is .entry)) (now (js .entry)) (now (ws .entry)) (now (pairs .entry)) (now (pairs .exit)) (now (values .entry)) (now (values .exit))) r ⌝ }
 {
     crate::numbers_of(diagonals::from_slot_map(slots, period, is, js, ws, pairs, values))
 }
@@ -116,7 +113,7 @@ pub extern "C" fn sibukyaran_shrink_period(
     pairs_out: &mut [u32],
     values_out: &mut [u64],
 ) -> crate::Numbers
-    ensures { λ r. ⌜ MapTold (secondRefusal slots count (now (pairs .entry)) (now (values .entry)) (shrunk (view count (now (pairs .entry)) (now (values .entry)))) (now («pairs_out» .entry)) (now («values_out» .entry))) (shrunk (view count (now (pairs .entry)) (now (values .entry)))) (now («pairs_out» .entry)) (now («pairs_out» .exit)) (now («values_out» .entry)) (now («values_out» .exit)) r ⌝ }
+    ensures { λ r. ⌜ Told (ShrinkWritten slots count (now (pairs .entry)) (now (values .entry)) (now («pairs_out» .entry)) (now («pairs_out» .exit)) (now («values_out» .entry)) (now («values_out» .exit))) r ⌝ }
 {
     crate::numbers_of(diagonals::shrink_period(slots, count, pairs, values, pairs_out, values_out))
 }
@@ -130,7 +127,7 @@ pub extern "C" fn sibukyaran_transpose(
     pairs_out: &mut [u32],
     values_out: &mut [u64],
 ) -> crate::Numbers
-    ensures { λ r. ⌜ MapTold (secondRefusal slots count (now (pairs .entry)) (now (values .entry)) (transposed slots (view count (now (pairs .entry)) (now (values .entry)))) (now («pairs_out» .entry)) (now («values_out» .entry))) (transposed slots (view count (now (pairs .entry)) (now (values .entry)))) (now («pairs_out» .entry)) (now («pairs_out» .exit)) (now («values_out» .entry)) (now («values_out» .exit)) r ⌝ }
+    ensures { λ r. ⌜ Told (TransposeWritten slots count (now (pairs .entry)) (now (values .entry)) (now («pairs_out» .entry)) (now («pairs_out» .exit)) (now («values_out» .entry)) (now («values_out» .exit))) r ⌝ }
 {
     crate::numbers_of(diagonals::transpose(slots, count, pairs, values, pairs_out, values_out))
 }

@@ -7,7 +7,7 @@ use poulpy_core::layouts::{Diagonals, rotate_slots_into};
 use crate::bench::{Bench, keep};
 use crate::ours::{self, Lent, Map, Numbers, Terms, Truth};
 use crate::random::{Random, divisors};
-use crate::ring::outside;
+use crate::ring::{outside, word};
 use crate::sample::Sample;
 use crate::tally::Tally;
 
@@ -28,7 +28,7 @@ impl Stored {
         let mut stored = Stored { slots: map.slots(), ..Default::default() };
         for index in map.indexes() {
             let values = map.get(index).unwrap();
-            stored.pairs.extend([index as u32, values.len() as u32]);
+            stored.pairs.extend([word(index), word(values.len())]);
             stored.values.extend(values.iter().map(|w| w.0));
             stored.count += 1;
         }

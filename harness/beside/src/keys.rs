@@ -6,7 +6,7 @@ use crate::diagonals::in_front;
 use crate::ours::{self, Lent, Numbers, PassNumbers, Reach, TreeNumbers};
 use crate::plans::{check_listed, disguised, held, listed, narrow, pair, subsets, wide};
 use crate::random::Random;
-use crate::ring::{MOST, outside};
+use crate::ring::{MOST, outside, word};
 use crate::sample::Sample;
 use crate::tally::{Cases, Tally};
 
@@ -55,12 +55,16 @@ fn right_switches(reach: Reach, giants: &[i64]) -> Numbers {
     switches.map_or_else(Numbers::refused, Numbers::is)
 }
 
+/// The words of a pass: its rotation, and its number of moves in two, least first.
+const PASS_SIZE: usize = 3;
+
 /// The words of the passes and of the moves.
 fn pass_words(reach: Reach, babies: &[i64]) -> Result<(Vec<u32>, Vec<u32>), u32> {
     accepted_babies(reach, babies)?;
     let passes = call_baby_passes(reach.rotations(), babies);
-    let words = passes.iter().flat_map(|(rot, moves)| [*rot as u32, moves.len() as u32]).collect();
-    let moves = passes.iter().flat_map(|(_, moves)| moves.iter().flat_map(|&(s, t)| [s as u32, t as u32])).collect();
+    let two = |n: usize| [n as u64 as u32, (n as u64 >> 32) as u32];
+    let words = passes.iter().flat_map(|(rot, moves)| [&[word(*rot)][..], &two(moves.len())].concat()).collect();
+    let moves = passes.iter().flat_map(|(_, moves)| moves.iter().flat_map(|&(s, t)| [word(s), word(t)])).collect();
     Ok((words, moves))
 }
 
@@ -74,7 +78,7 @@ fn right_passes(words: &Result<(Vec<u32>, Vec<u32>), u32>, passes: &[u32], moves
     };
     match (in_front(p, passes), in_front(m, moves)) {
         (Some(passes), Some(moves)) => {
-            (PassNumbers { refusal: 0, passes: p.len() as u32 / 2, moves: m.len() / 2 }, passes, moves)
+            (PassNumbers { refusal: 0, passes: word(p.len() / PASS_SIZE), moves: m.len() / 2 }, passes, moves)
         }
         _ => refused(12),
     }
@@ -84,11 +88,11 @@ fn right_passes(words: &Result<(Vec<u32>, Vec<u32>), u32>, passes: &[u32], moves
 fn tree_words(tree: &GiantTree) -> [Vec<u32>; 3] {
     let (leaves, levels) = tree;
     [
-        leaves.iter().map(|&l| l as u32).collect(),
-        levels.iter().flat_map(|(rot, pairs)| [*rot as u32, pairs.len() as u32]).collect(),
+        leaves.iter().copied().map(word).collect(),
+        levels.iter().flat_map(|(rot, pairs)| [word(*rot), word(pairs.len())]).collect(),
         levels
             .iter()
-            .flat_map(|(_, pairs)| pairs.iter().flat_map(|&(even, odd)| [odd as u32, even.is_some() as u32]))
+            .flat_map(|(_, pairs)| pairs.iter().flat_map(|&(even, odd)| [word(odd), even.is_some() as u32]))
             .collect(),
     ]
 }
@@ -110,7 +114,7 @@ fn right_tree(tree: &Grown, held: &[Vec<u32>; 3]) -> (TreeNumbers, [Vec<u32>; 3]
     if words.iter().zip(held).any(|(w, h)| h.len() < w.len()) {
         return none(12);
     }
-    let numbers = TreeNumbers { refusal: 0, bits: words[1].len() as u32 / 2, pairs: words[2].len() / 2 };
+    let numbers = TreeNumbers { refusal: 0, bits: word(words[1].len() / 2), pairs: words[2].len() / 2 };
     (numbers, std::array::from_fn(|i| in_front(&words[i], &held[i]).unwrap()))
 }
 

@@ -9,7 +9,7 @@ use crate::bench::{Bench, keep};
 use crate::diagonals::in_front;
 use crate::ours::{self, Lent, Numbers, PlanNumbers};
 use crate::random::Random;
-use crate::ring::{MOST, outside};
+use crate::ring::{MOST, outside, word};
 use crate::sample::Sample;
 use crate::tally::{Cases, Tally};
 
@@ -32,7 +32,7 @@ fn accepted(slots: usize, (kind, giant_step): How) -> Result<Strategy, u32> {
 }
 
 pub fn narrow(words: &[i64]) -> Vec<u32> {
-    words.iter().map(|&w| u32::try_from(w).unwrap()).collect()
+    words.iter().copied().map(word).collect()
 }
 
 /// The plan's words: babies, giants, pairs, index.
@@ -41,8 +41,8 @@ fn plan_words(plan: &LinearTransformationPlan) -> Vec<u32> {
     words.extend(narrow(&plan.giant_steps));
     let mut start = 0;
     for babies in &plan.index {
-        words.extend([start, babies.len() as u32]);
-        start += babies.len() as u32;
+        words.extend([start, word(babies.len())]);
+        start += word(babies.len());
     }
     words.extend(plan.index.iter().flat_map(|babies| narrow(babies)));
     words
@@ -51,9 +51,9 @@ fn plan_words(plan: &LinearTransformationPlan) -> Vec<u32> {
 fn plan_numbers(plan: &LinearTransformationPlan) -> PlanNumbers {
     PlanNumbers {
         refusal: 0,
-        babies: plan.baby_steps.len() as u32,
-        giants: plan.giant_steps.len() as u32,
-        diagonals: plan.index.iter().map(Vec::len).sum::<usize>() as u32,
+        babies: word(plan.baby_steps.len()),
+        giants: word(plan.giant_steps.len()),
+        diagonals: word(plan.index.iter().map(Vec::len).sum::<usize>()),
     }
 }
 

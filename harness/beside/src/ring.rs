@@ -35,6 +35,11 @@ const LONG: [usize; 6] = [46_189, 59_049, 64_974, 65_521, 65_535, 65_536];
 /// The most slots, and the largest width, step, period and length.
 pub const MOST: usize = 65_536;
 
+/// A number of the Rust's as a word. One that is no word is a fault of the comparison: it is never cut.
+pub fn word<T: TryInto<u32>>(number: T) -> u32 {
+    number.try_into().ok().expect("a number of the Rust's is no word")
+}
+
 /// Below 1 or above the most: document 01's condition of refusals 1 and 3.
 pub fn outside(n: usize) -> bool {
     !(1..=MOST).contains(&n)
@@ -95,7 +100,7 @@ pub fn compare(tally: &mut Tally) {
             (if random.below(2) == 0 { x } else { x.wrapping_neg() }, 1 + random.below(65_536) as u32)
         }));
         for (x, m) in calls {
-            let right = call_normalize_linear_transform_diagonal(x, m as usize) as u32;
+            let right = word(call_normalize_linear_transform_diagonal(x, m as usize));
             cases.same(|| format!("{x} {m}"), ours::residue(x, m), right);
         }
     });
@@ -103,7 +108,7 @@ pub fn compare(tally: &mut Tally) {
         for x in SHIFTS {
             cases.same(|| format!("{x} 0"), ours::residue(x, 0), 0);
             for m in [65_537, 0x7fff_ffff, 0x8000_0000, 0xffff_ffff] {
-                cases.same(|| format!("{x} {m}"), ours::residue(x, m), x.rem_euclid(m as i64) as u32);
+                cases.same(|| format!("{x} {m}"), ours::residue(x, m), word(x.rem_euclid(m as i64)));
             }
         }
     });
@@ -114,7 +119,7 @@ pub fn compare(tally: &mut Tally) {
         pairs.extend((0..200_000).map(|_| ((random.any_size() >> 32) as u32, (random.any_size() >> 32) as u32)));
         pairs.extend((0..200_000).map(|_| (random.below(65_537) as u32, random.below(65_537) as u32)));
         for (a, b) in pairs {
-            cases.same(|| format!("{a} {b}"), ours::gcd(a, b), call_gcd_i64(a as i64, b as i64) as u32);
+            cases.same(|| format!("{a} {b}"), ours::gcd(a, b), word(call_gcd_i64(a as i64, b as i64)));
         }
     });
     tally.run("period_lcm: all pairs to 300", |cases| {

@@ -9,7 +9,7 @@ use lib.ListN.{length, take, drop, length-take, length-drop}
 use lib.Seq.{getD-take, getD-drop}
 use Rattle.ring.specs.Vectors.{Filling, tabulate}
 use Rattle.ring.specs.Laws.Vectors.{filling-none, filling-block, filling-done, is-tabulate}
-use Rattle.diagonals.specs.Steps.{spin}
+use Rattle.diagonals.specs.Steps.Writing.{spin}
 use Rattle.diagonals.proofs.fill.Statement.{statement}
 use Rattle.diagonals.proofs.fill.Tie as tie
 

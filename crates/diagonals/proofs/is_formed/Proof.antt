@@ -3,50 +3,41 @@ use mathlib.Core.Path.{sym, _∙_}
 use borrow.Author.Tests.{not-true, not-false}
 use borrow.Author.Needs.{needs}
 use Prim.Native.Nat.{_+_, _-_, _≤_}
-use Rattle.diagonals.specs.Maps.{offsetAt, lengthAt}
+use denote.Ref.{now}
 use native.Mathlib.Omega.{arith}
+use Rattle.diagonals.specs.Laws.Pairs.{room-mono}
 use Rattle.diagonals.proofs.Checking.{Checking, checking-none, checking-more, len-small, fails-rise, fails-low, fails-len, checking-done}
 use Rattle.diagonals.proofs.is_formed.Statement.{statement}
 use Rattle.diagonals.proofs.is_formed.Tie as tie
 
 abbrev Inv-loop : tie.InvT-loop
-Inv-loop slots count pairs room total₀ next₀ last₀ i₀ total next last i = Checking slots count pairs total next last i
+Inv-loop slots count pairs values total₀ next₀ last₀ i₀ total next last i = Checking slots count pairs total next last i
 
 abbrev μ-loop : tie.MeasureT-loop
-μ-loop slots count pairs room total₀ next₀ last₀ i₀ total next last i = count - i
+μ-loop slots count pairs values total₀ next₀ last₀ i₀ total next last i = count - i
 
 loop-holds : tie.Need-loop-holds Inv-loop μ-loop
 loop-holds c = checking-none _ _ _
 
-mul-at : tie.Need-mul-at Inv-loop μ-loop
-mul-at c = search needs
+offset-in-requires : tie.Need-offset-in-requires Inv-loop μ-loop
+offset-in-requires c κs = omega (arith, room-mono (c .before .loop .i + 1) (c .before .before .before .before .args .count) (omega arith))
 
-mul-offset : tie.Need-mul-offset Inv-loop μ-loop
-mul-offset c = search needs
-
-shared-slice-read-offset : tie.Need-shared-slice-read-offset Inv-loop μ-loop
-shared-slice-read-offset c = search needs
-
-add-len : tie.Need-add-len Inv-loop μ-loop
-add-len c = search needs
-
-mul-len : tie.Need-mul-len Inv-loop μ-loop
-mul-len c = search needs
-
-shared-slice-read-len : tie.Need-shared-slice-read-len Inv-loop μ-loop
-shared-slice-read-len c = search needs
+length-in-requires : tie.Need-length-in-requires Inv-loop μ-loop
+length-in-requires c κs = omega (arith, room-mono (c .before .before .loop .i + 1) (c .before .before .before .before .before .args .count) (omega arith))
 
 returns : tie.Need-returns Inv-loop μ-loop
-returns c = fails-rise (c .before .before .before .before .loop .inv) (c .before .before .before .loop-test .taken) _ (c .if1 .taken)
+returns c = search (fails-rise, needs)
 
 returns-2 : tie.Need-returns-2 Inv-loop μ-loop
-returns-2 c = fails-low (c .before .before .before .before .before .loop .inv) (c .before .before .before .before .loop-test .taken) _ (omega (arith, c .if2 .taken))
+returns-2 c = search (fails-low, needs)
 
 is-period-requires : tie.Need-is-period-requires Inv-loop μ-loop
-is-period-requires c κs = c .before .before .before .before .before .loop .inv .divisor
+is-period-requires c κs = search needs
 
 returns-3 : tie.Need-returns-3 Inv-loop μ-loop
-returns-3 c = fails-len (c .before .before .before .before .before .before .before .loop .inv) (c .before .before .before .before .before .before .loop-test .taken) _ (omega (arith, c .before .before .if2 .left)) (sym (c .before .is-period .ensures) ∙ not-true _ (c .if3 .taken))
+returns-3 c =
+    let k = c .before .before .before .before .before .before in
+    fails-len (k .before .loop .inv) (k .loop-test .taken) (c .before .before .before .before .before .offset-in .ensures) (c .before .before .before .before .length-in .ensures) _ (sym (c .before .is-period .ensures) ∙ not-true _ (c .if3 .taken))
 
 add-next : tie.Need-add-next Inv-loop μ-loop
 add-next c = search needs
@@ -55,17 +46,26 @@ wide-requires : tie.Need-wide-requires Inv-loop μ-loop
 wide-requires c κs = search needs
 
 -- a turn: the length is small, and the loop goes on
-turn : (c : tie.After-wide Inv-loop μ-loop) → (c .wide .result ≤ 65536) × Checking (c .before .before .before .before .before .before .before .before .before .before .args .slots) (c .before .before .before .before .before .before .before .before .before .before .args .count) (c .before .before .before .before .before .before .before .before .before .before .args .pairs .now) (c .before .before .before .before .before .before .before .before .loop .total + c .wide .result) (offsetAt (c .before .before .before .before .before .before .before .before .before .before .args .pairs .now) (c .before .before .before .before .before .before .before .before .loop .i) + 1) (lengthAt (c .before .before .before .before .before .before .before .before .before .before .args .pairs .now) (c .before .before .before .before .before .before .before .before .loop .i)) (c .before .before .before .before .before .before .before .before .loop .i + 1)
+turn : (c : tie.After-wide Inv-loop μ-loop)
+    → let k = c .before .before .before .before .before .before .before .before in
+    let a = k .before .before .before .args in
+    let offset = c .before .before .before .before .before .before .offset-in .result in
+    let len = c .before .before .before .before .before .length-in .result in
+    (len ≤ 65536) × Checking (a .slots) (a .count) (now (a .pairs)) (k .loop .total + len) (offset + 1) len (k .loop .i + 1)
 turn c =
     let k = c .before .before .before .before .before .before .before .before in
     let p = sym (c .before .before .is-period .ensures) ∙ not-false _ (c .before .if3 .left) in
     let l = c .before .before .before .before .before .before .before .loop-test .taken in
+    let eo = c .before .before .before .before .before .before .offset-in .ensures in
+    let el = c .before .before .before .before .before .length-in .ensures in
     let a = c .before .before .before .before .if1 .left in
     let b = c .before .before .before .if2 .left in
-    (rw (c .wide .ensures) (len-small (k .loop .inv) l (k .before .before .pre .0) a b p), checking-more (k .loop .inv) l (k .before .before .pre .0) a b p (c .wide .ensures))
+    (len-small (k .loop .inv) l eo el (k .before .before .before .pre .0) a b p, checking-more (k .loop .inv) l eo el (k .before .before .before .pre .0) a b p)
 
 add-total : tie.Need-add-total Inv-loop μ-loop
-add-total c = omega (arith, c .before .before .before .before .before .before .before .before .loop .inv .small, c .before .before .before .before .before .before .before .before .loop .inv .low, c .before .before .before .before .before .before .before .before .loop .inv .high, c .wide .ensures, turn c .0)
+add-total c =
+    let k = c .before .before .before .before .before .before .before .before in
+    omega (arith, k .loop .inv .small, k .loop .inv .low, k .loop .inv .high, c .wide .ensures, turn c .0)
 
 add-i : tie.Need-add-i Inv-loop μ-loop
 add-i c = search needs
@@ -74,10 +74,10 @@ loop-less : tie.Need-loop-less Inv-loop μ-loop
 loop-less c = search needs
 
 loop-again : tie.Need-loop-again Inv-loop μ-loop
-loop-again c = turn c .1
+loop-again c = rw (c .wide .ensures) (turn c .1)
 
 returns-4 : tie.Need-returns-4 Inv-loop μ-loop
-returns-4 c = checking-done _ (c .before .loop .inv) (c .loop-test .left)
+returns-4 c = checking-done (c .before .loop .inv) (c .loop-test .left) _
 
 pub is-formed-spec : {M : Type 1} → statement M
 is-formed-spec =
@@ -86,12 +86,8 @@ is-formed-spec =
     Inv-loop
     μ-loop
     loop-holds
-    mul-at
-    mul-offset
-    shared-slice-read-offset
-    add-len
-    mul-len
-    shared-slice-read-len
+    offset-in-requires
+    length-in-requires
     returns
     returns-2
     is-period-requires

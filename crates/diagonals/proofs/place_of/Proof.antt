@@ -2,11 +2,12 @@
 use native.Mathlib.Nat.{lt-irrefl, lt-of-lt-of-le}
 use borrow.Author.Needs.{needs}
 use Prim.Native.Nat.{ℕ, _+_, _-_, _≤_, _<_}
-use mathlib.Core.Path.{_≡_, refl, sym}
+use mathlib.Core.Path.{_≡_, refl, sym, _∙_}
 use mathlib.Core.List.{List}
 use native.Mathlib.Omega.{arith}
 use borrow.Author.Count.{below-none, below-more}
 use Rattle.diagonals.specs.Maps.{offsetAt, lengthAt, startAt}
+use Rattle.diagonals.specs.Laws.Pairs.{room-mono}
 use Rattle.diagonals.specs.Laws.Maps.{start-more, start-mono}
 use Rattle.diagonals.proofs.place_of.Statement.{statement}
 use Rattle.diagonals.proofs.place_of.Tie as tie
@@ -33,32 +34,20 @@ abbrev μ-loop : tie.MeasureT-loop
 loop-holds : tie.Need-loop-holds Inv-loop μ-loop
 loop-holds c = record { room = omega arith; start-is = refl; before = below-none _ }
 
-mul-at : tie.Need-mul-at Inv-loop μ-loop
-mul-at c = search needs
-
-mul-if1 : tie.Need-mul-if1 Inv-loop μ-loop
-mul-if1 c = search needs
-
-shared-slice-read-if1 : tie.Need-shared-slice-read-if1 Inv-loop μ-loop
-shared-slice-read-if1 c = search needs
+offset-in-requires : tie.Need-offset-in-requires Inv-loop μ-loop
+offset-in-requires c κs = omega (arith, room-mono (c .before .loop .i + 1) (c .before .before .before .args .count) (omega arith))
 
 returns : tie.Need-returns Inv-loop μ-loop
-returns c = record { inside = c .before .before .before .loop .inv .room; before = c .before .before .before .loop .inv .before; here = λ l. c .if1 .taken; start-is = c .before .before .before .loop .inv .start-is }
+returns c = record { inside = c .before .before .before .loop .inv .room; before = c .before .before .before .loop .inv .before; here = λ l. rw (← (c .before .offset-in .ensures)) (c .if1 .taken); start-is = c .before .before .before .loop .inv .start-is }
 
-add-wide : tie.Need-add-wide Inv-loop μ-loop
-add-wide c = search needs
-
-mul-wide : tie.Need-mul-wide Inv-loop μ-loop
-mul-wide c = search needs
-
-shared-slice-read-wide : tie.Need-shared-slice-read-wide Inv-loop μ-loop
-shared-slice-read-wide c = search needs
+length-in-requires : tie.Need-length-in-requires Inv-loop μ-loop
+length-in-requires c κs = omega (arith, room-mono (c .before .before .before .loop .i + 1) (c .before .before .before .before .before .args .count) (omega arith))
 
 wide-requires : tie.Need-wide-requires Inv-loop μ-loop
 wide-requires c κs = search needs
 
 add-start : tie.Need-add-start Inv-loop μ-loop
-add-start c = omega (arith, fits (c .before .before .before .before .before .loop .inv) (c .before .before .before .before .loop-test .taken) (c .wide .ensures), c .before .before .before .before .before .before .before .pre .1)
+add-start c = omega (arith, fits (c .before .before .before .before .before .loop .inv) (c .before .before .before .before .loop-test .taken) (c .wide .ensures ∙ c .before .length-in .ensures), c .before .before .before .before .before .before .before .pre .1)
 
 add-i : tie.Need-add-i Inv-loop μ-loop
 add-i c = search needs
@@ -67,7 +56,7 @@ loop-less : tie.Need-loop-less Inv-loop μ-loop
 loop-less c = search needs
 
 loop-again : tie.Need-loop-again Inv-loop μ-loop
-loop-again c = more (c .before .before .before .before .before .loop .inv) (c .before .before .before .before .loop-test .taken) (c .before .before .if1 .left) (c .wide .ensures)
+loop-again c = more (c .before .before .before .before .before .loop .inv) (c .before .before .before .before .loop-test .taken) (rw (c .before .before .before .offset-in .ensures) at (c .before .before .if1 .left)) (c .wide .ensures ∙ c .before .length-in .ensures)
 
 returns-2 : tie.Need-returns-2 Inv-loop μ-loop
 returns-2 c = record { inside = c .before .loop .inv .room; before = c .before .loop .inv .before; here = λ l. absurd (lt-irrefl _ (lt-of-lt-of-le l (c .loop-test .left))); start-is = c .before .loop .inv .start-is }
@@ -79,13 +68,9 @@ place-of-spec =
     Inv-loop
     μ-loop
     loop-holds
-    mul-at
-    mul-if1
-    shared-slice-read-if1
+    offset-in-requires
     returns
-    add-wide
-    mul-wide
-    shared-slice-read-wide
+    length-in-requires
     wide-requires
     add-start
     add-i

@@ -1,25 +1,23 @@
 -- Laws of the refusals of lent maps.
 -- Assumes nothing.
-use Prim.Native.Nat.{ℕ, zero, suc, _*_, _≤_, _<_}
+use Prim.Native.Nat.{ℕ, zero, suc, _≤_, _<_}
 use mathlib.Core.Path.{_≡_, refl, sym, ap, _∙_}
 use mathlib.Core.Bool.{Bool, true, false, or-true}
 use mathlib.Core.List.{List, [], _∷_, _++_}
 use native.Mathlib.Nat.{suc-ne-zero}
-use borrow.Author.Tests.{lt-ltb, le-ltb}
+use borrow.Author.Tests.{lt-ltb, le-ltb, ltb-false}
 use lib.Dec.{ltb}
 use lib.ListN.{length}
 use Rattle.ring.specs.Vectors.{inFront, filled}
-use Rattle.ring.specs.Refusals.{firstOf, outside}
+use Rattle.ring.specs.Refusals.{firstOf, onAccept, outside}
 use Rattle.ring.specs.declared.Answer.{Answer}
 use Rattle.ring.specs.Laws.Vectors.{filled-front}
-use Rattle.ring.specs.Laws.Refusals.{onAccept-refused, onAccept-accepted, first-refused, first-later}
-use Rattle.ring.specs.Laws.Answers.{answered-refused, answered-accepted}
+use Rattle.ring.specs.Laws.Refusals.{onAccept-refused, onAccept-accepted, first-refused, first-later, pick-none, either}
+use Rattle.ring.specs.Laws.Answers.{answered-refused, answered-accepted, no-refused}
 use Rattle.diagonals.specs.declared.reading.Test.the-variants.{Refused, Is}
-use Rattle.diagonals.specs.Maps.{Diagonal, offsetAt, wellFormed}
-use Rattle.diagonals.specs.Setting.{pairWords, valueWords}
-use Rattle.diagonals.specs.Calls.{mapRefusals, mapRefusal, Judged, tested, MapWritten, indexesRefusal, Indexes, noRoom, secondRefusal}
+use Rattle.diagonals.specs.Maps.{Diagonal, offsetAt, wellFormed, pairWords, valueWords, pairRoom}
+use Rattle.diagonals.specs.Calls.{mapRefusals, mapRefusal, Judged, truths, tested, MapWritten, indexesRefusal, Indexes, mapRoom, RoomJudged, secondRefusal}
 use Rattle.diagonals.specs.Laws.Maps.{formed-means, offsets-view}
-use Rattle.diagonals.specs.Laws.Words.{length-pairWords}
 
 module _ {slots count : ℕ} {pairs values : List ℕ} where
   pub judged-refused : {r : ℕ} → suc r ≡ mapRefusal slots count pairs values → Judged slots count pairs values (suc r)
@@ -36,6 +34,11 @@ module _ {slots count : ℕ} {pairs values : List ℕ} {r : ℕ} (j : Judged slo
   pub then-later : r ≡ 0 → firstOf (mapRefusals slots count pairs values ++ cs) ≡ firstOf cs
   then-later h = first-later (mapRefusals slots count pairs values) cs (suc-ne-zero 0, (suc-ne-zero 1, tt)) (sym (j .answer) ∙ h)
 
+-- the refusal and the truth that an answer was made of
+pub truths-tested : (e : ℕ) (b : Bool) → truths (tested e b) ≡ (e, onAccept e b false)
+truths-tested zero b = refl
+truths-tested (suc e) b = refl
+
 -- an answer that is a truth, at a return
 pub tested-refused : (e : ℕ) (b : Bool) → (e ≡ 0 → ⊥) → Refused e ≡ tested e b
 tested-refused zero b h = absurd (h refl)
@@ -46,20 +49,39 @@ tested-accepted e b h = rw h
 
 -- ---- maps that are written
 
-module _ (ds : List Diagonal) (pairs values : List ℕ) where
-  pub no-room-pairs : length pairs < 2 * length ds → noRoom ds pairs values ≡ true
-  no-room-pairs l = rw (length-pairWords, lt-ltb _ _ l)
+-- `room_refusal`: the pairs have no room, the values have none, there is room
+module _ {count total pairs values : ℕ} where
+  pub room-no-pairs : pairs < pairRoom count → RoomJudged count total pairs values 12
+  room-no-pairs l = record { answer = rw (lt-ltb _ _ l); pairs-fit = λ h. absurd (suc-ne-zero 11 h); values-fit = λ h. absurd (suc-ne-zero 11 h) }
 
-  pub no-room-values : length values < length (valueWords ds) → noRoom ds pairs values ≡ true
-  no-room-values l = rw (lt-ltb (length values) _ l) (or-true (ltb (length pairs) (length (pairWords ds))))
+  pub room-no-values : values < total → RoomJudged count total pairs values 12
+  room-no-values l = record { answer = rw (lt-ltb values total l, or-true (ltb pairs (pairRoom count))); pairs-fit = λ h. absurd (suc-ne-zero 11 h); values-fit = λ h. absurd (suc-ne-zero 11 h) }
 
-  pub room-for : 2 * length ds ≤ length pairs → length (valueWords ds) ≤ length values → noRoom ds pairs values ≡ false
-  room-for l m = rw (length-pairWords, le-ltb _ _ l, le-ltb (length values) _ m)
+  pub room-there : pairRoom count ≤ pairs → total ≤ values → RoomJudged count total pairs values 0
+  room-there l m = record { answer = rw (le-ltb pairs (pairRoom count) l, le-ltb values total m); pairs-fit = λ h. l; values-fit = λ h. m }
+
+-- the numbers of a map decide its room
+pub room-of : {count total r : ℕ} (ds : List Diagonal) (pairs values : List ℕ) → count ≡ length ds → total ≡ length (valueWords ds) → RoomJudged count total (length pairs) (length values) r → r ≡ firstOf (mapRoom ds pairs values)
+room-of ds pairs values e f j = j .answer ∙ rw (e, f)
+
+-- a map that is not refused has room
+pub room-fits : (ds : List Diagonal) (pairs values : List ℕ) → firstOf (mapRoom ds pairs values) ≡ 0 → (pairRoom (length ds) ≤ length pairs) × (length (valueWords ds) ≤ length values)
+room-fits ds pairs values h =
+    let e = either _ _ (pick-none _ 12 0 (suc-ne-zero 11) h .0) in
+    (ltb-false (length pairs) _ (e .0), ltb-false (length values) _ (e .1))
+
+pub fits-room : (ds : List Diagonal) (pairs values : List ℕ) → pairRoom (length ds) ≤ length pairs → length (valueWords ds) ≤ length values → firstOf (mapRoom ds pairs values) ≡ 0
+fits-room ds pairs values l m = sym (room-there l m .answer)
 
 -- a refused call leaves the buffers as they were
 pub written-refused : {e r : ℕ} {ds : List Diagonal} {pairs values : List ℕ} → r ≡ e → (r ≡ 0 → ⊥) → MapWritten e ds pairs pairs values values (Answer.Refused r)
 written-refused {r = zero} e h = absurd (h refl)
 written-refused {r = suc r} e h = rw (← e) (record { answer = refl; pairs = refl; values = refl })
+
+-- whichever map it would have written
+pub refused-any : {e x : ℕ} {ds es : List Diagonal} {pairs₀ pairs₁ values₀ values₁ : List ℕ} → MapWritten e ds pairs₀ pairs₁ values₀ values₁ (Answer.Refused x) → MapWritten e es pairs₀ pairs₁ values₀ values₁ (Answer.Refused x)
+refused-any {e = zero} m = no-refused (m .answer)
+refused-any {e = suc e} m = record { answer = m .answer; pairs = m .pairs; values = m .values }
 
 -- an accepted one answers the number of pairs, and has the words of the map in front
 pub written-accepted : {e n : ℕ} {ds : List Diagonal} {pairs₀ pairs₁ values₀ values₁ : List ℕ} → e ≡ 0 → n ≡ length ds → pairs₁ ≡ inFront (pairWords ds) pairs₀ → values₁ ≡ inFront (valueWords ds) values₀ → MapWritten e ds pairs₀ pairs₁ values₀ values₁ (Answer.Is n)
@@ -90,17 +112,14 @@ module _ {slots count : ℕ} {pairs values old : List ℕ} {r : ℕ} (j : Judged
 
 -- a call that is lent a map and writes another: the map is refused, there is no room, the other is written
 module _ {slots count : ℕ} {pairs values : List ℕ} {r : ℕ} (j : Judged slots count pairs values r) (ds : List Diagonal) (pairs₂ values₂ : List ℕ) where
-  abbrev room : List (Bool × ℕ)
-  room = (noRoom ds pairs₂ values₂, 12) ∷ []
-
   abbrev Second : List ℕ → List ℕ → Answer → Type 0
   Second p v a = MapWritten (secondRefusal slots count pairs values ds pairs₂ values₂) ds pairs₂ p values₂ v a
 
   pub second-map-refused : (r ≡ 0 → ⊥) → Second pairs₂ values₂ (Answer.Refused r)
-  second-map-refused h = written-refused (then-refused j room h) h
+  second-map-refused h = written-refused (then-refused j (mapRoom ds pairs₂ values₂) h) h
 
-  pub second-no-room : r ≡ 0 → noRoom ds pairs₂ values₂ ≡ true → Second pairs₂ values₂ (Answer.Refused 12)
-  second-no-room z e = written-refused (sym (then-later j room z ∙ rw e)) (suc-ne-zero 11)
+  pub second-no-room : {x : ℕ} → r ≡ 0 → x ≡ firstOf (mapRoom ds pairs₂ values₂) → (x ≡ 0 → ⊥) → Second pairs₂ values₂ (Answer.Refused x)
+  second-no-room z e n = written-refused (e ∙ sym (then-later j (mapRoom ds pairs₂ values₂) z)) n
 
-  pub second-written : {p v : List ℕ} {n : ℕ} → r ≡ 0 → noRoom ds pairs₂ values₂ ≡ false → n ≡ length ds → p ≡ inFront (pairWords ds) pairs₂ → v ≡ inFront (valueWords ds) values₂ → Second p v (Answer.Is n)
-  second-written z e k a b = written-accepted (then-later j room z ∙ rw e) k a b
+  pub second-written : {p v : List ℕ} {n : ℕ} → r ≡ 0 → firstOf (mapRoom ds pairs₂ values₂) ≡ 0 → n ≡ length ds → p ≡ inFront (pairWords ds) pairs₂ → v ≡ inFront (valueWords ds) values₂ → Second p v (Answer.Is n)
+  second-written z e k a b = written-accepted (then-later j (mapRoom ds pairs₂ values₂) z ∙ e) k a b

@@ -1,9 +1,9 @@
 -- Laws of a change that sets a diagonal in place: where its pair goes, the words that are written, and what the call answers.
 -- Assumes nothing.
-use Prim.Native.Nat.{ℕ, suc, _+_, _-_, _*_, _≤_, _<_, _^_}
+use Prim.Native.Nat.{ℕ, suc, _+_, _-_, _≤_, _<_, _^_}
 use mathlib.Core.Path.{_≡_, sym, ap, _∙_}
 use mathlib.Core.Bool.{Bool, true, false}
-use mathlib.Core.List.{List, [], _∷_, _++_}
+use mathlib.Core.List.{List, _∷_, _++_}
 use mathlib.Core.Logic.{⊎-elim}
 use native.Mathlib.Nat.{suc-ne-zero, eq-or-lt-of-le, lt-of-not-le}
 use native.Mathlib.Omega.{arith}
@@ -18,12 +18,14 @@ use Rattle.ring.specs.declared.Answer.{Answer}
 use Rattle.ring.specs.declared.Answer.the-variants.{Refused, Is}
 use Rattle.ring.specs.Laws.Vectors.{getD-tabulate}
 use Rattle.diagonals.specs.declared.setting.Change.{Change}
-use Rattle.diagonals.specs.Maps.{Diagonal, offsetAt, startAt, diagonalAt, view, WellFormed}
-use Rattle.diagonals.specs.Setting.{placed, pairWords, valueWords}
-use Rattle.diagonals.specs.Calls.{Judged, noRoom, MapWritten, setMap, setRefusal}
-use Rattle.diagonals.specs.Steps.{Placed, InOrder, Changed, Spliceable, spliced}
-use Rattle.diagonals.specs.Laws.Maps.{start-mono, length-view, each-view}
-use Rattle.diagonals.specs.Laws.Calls.{then-refused, then-later, no-room-pairs, no-room-values, room-for, written-refused, written-accepted}
+use Rattle.diagonals.specs.Maps.{Diagonal, pairRoom, offsetAt, pairOf, pairWords, valueWords, startAt, diagonalAt, view, WellFormed}
+use Rattle.diagonals.specs.Laws.Pairs.{room-add, room-mono}
+use Rattle.diagonals.specs.Setting.{placed}
+use Rattle.diagonals.specs.Calls.{Judged, mapRoom, RoomJudged, MapWritten, setMap, setRefusal}
+use Rattle.diagonals.specs.Steps.Setting.{InOrder, Changed, Spliceable, spliced}
+use Rattle.diagonals.specs.Steps.Reading.{Placed}
+use Rattle.diagonals.specs.Laws.Maps.{start-mono, values-inside, count-low, length-view, each-view}
+use Rattle.diagonals.specs.Laws.Calls.{then-refused, then-later, room-of, written-refused, written-accepted}
 use Rattle.diagonals.specs.Laws.Words.{view-cut, values-view, pairs-view, values-rest, pairs-rest, valueWords-append, pairWords-append}
 use Rattle.diagonals.specs.Laws.Setting.{Side, side, below, equal, above, placed-equal, placed-above, placed-append}
 
@@ -121,14 +123,15 @@ module _ {slots count : ℕ} {pairs values : List ℕ} (w : WellFormed slots cou
       ∙ omega (arith, length-append (view (r .index) pairs values) (record { offset = k; values = vs } ∷ drop (r .behind) (view count pairs values)), length-view (r .index) pairs values, length-drop (r .behind) (view count pairs values), length-view count pairs values, h .pairs-is)
 
   -- the words
-  new-pairs : pairWords new ≡ take (2 * r .index) pairs ++ (k ∷ length vs ∷ take (2 * count - 2 * r .behind) (drop (2 * r .behind) pairs))
+  new-pairs : pairWords new ≡ take (pairRoom (r .index)) pairs ++ (pairOf (record { offset = k; values = vs }) ++ take (pairRoom count - pairRoom (r .behind)) (drop (pairRoom (r .behind)) pairs))
   unfolding pairWords
   new-pairs =
       let i : r .index ≤ count = h .here .inside in
+      let d : Diagonal = record { offset = k; values = vs } in
       ap pairWords new-is
       ∙ pairWords-append (view (r .index) pairs values) _
-      ∙ ap (λ (t : List ℕ). t ++ (k ∷ length vs ∷ pairWords (drop (r .behind) (view count pairs values)))) (pairs-view pairs values (r .index) (omega (arith, w .pairs-inside)) (omega (arith, start-within (h .here), start-is, w .values-inside)))
-      ∙ ap (λ (t : List ℕ). take (2 * r .index) pairs ++ (k ∷ length vs ∷ t)) (pairs-rest pairs values (r .behind) count (h .above .inside) (w .pairs-inside) (w .values-inside))
+      ∙ ap (λ (t : List ℕ). t ++ (pairOf d ++ pairWords (drop (r .behind) (view count pairs values)))) (pairs-view pairs values (r .index) (omega (arith, w .pairs-inside, room-mono (r .index) count i)) (λ j l. w .whole j (omega arith)))
+      ∙ ap (λ (t : List ℕ). take (pairRoom (r .index)) pairs ++ (pairOf d ++ t)) (pairs-rest pairs values (r .behind) count (h .above .inside) (w .pairs-inside) (w .whole))
 
   new-values : valueWords new ≡ take (r .start) values ++ (vs ++ take (r .end - r .from) (drop (r .from) values))
   unfolding valueWords
@@ -139,7 +142,7 @@ module _ {slots count : ℕ} {pairs values : List ℕ} (w : WellFormed slots cou
       ∙ ap (λ (t : List ℕ). take (startAt pairs (r .index)) values ++ (vs ++ t)) (values-rest pairs values (r .behind) count (h .above .inside))
       ∙ rw (start-is, from-is, h .end-is)
 
-  pub set-pairs : spliced (2 * r .index) (2 * r .behind) (2 * count) (k ∷ length vs ∷ []) pairs ≡ inFront (pairWords new) pairs
+  pub set-pairs : spliced (pairRoom (r .index)) (pairRoom (r .behind)) (pairRoom count) (pairOf (record { offset = k; values = vs })) pairs ≡ inFront (pairWords new) pairs
   unfolding spliced
   set-pairs = rw new-pairs
 
@@ -150,36 +153,40 @@ module _ {slots count : ℕ} {pairs values : List ℕ} (w : WellFormed slots cou
   -- the number of values
   pub length-new-values : length (valueWords new) ≡ r .values
   length-new-values =
-      let a : r .start ≤ length values = omega (arith, start-within (h .here), w .values-inside) in
-      let b : r .end - r .from ≤ length (drop (r .from) values) = omega (arith, length-drop (r .from) values, h .end-is, w .values-inside) in
+      let a : r .start ≤ length values = omega (arith, start-within (h .here), values-inside w) in
+      let b : r .end - r .from ≤ length (drop (r .from) values) = omega (arith, length-drop (r .from) values, h .end-is, values-inside w) in
       let moved : List ℕ = take (r .end - r .from) (drop (r .from) values) in
       ap length new-values
       ∙ omega (arith, length-append (take (r .start) values) (vs ++ moved), length-append vs moved, length-take-le (r .start) values a, length-take-le (r .end - r .from) (drop (r .from) values) b, h .values-is)
 
 -- with room for these words both are spliced inside their buffers
 module _ {slots count : ℕ} {pairs values : List ℕ} (w : WellFormed slots count pairs values) {k n : ℕ} {r : Change} (h : Changed count pairs k n r) where
-  pub pairs-fit : 2 * r .pairs ≤ length pairs → Spliceable (2 * r .index) (2 * r .behind) (2 * count) 2 (length pairs)
-  pairs-fit l = record { order = omega (arith, h .above .inside); inside = w .pairs-inside; fits = omega (arith, h .pairs-is, h .above .inside) }
+  pub pairs-fit : pairRoom (r .pairs) ≤ length pairs → Spliceable (pairRoom (r .index)) (pairRoom (r .behind)) (pairRoom count) (pairRoom 1) (length pairs)
+  pairs-fit l =
+      let b : r .behind + (count - r .behind) ≡ count = omega (arith, h .above .inside) in
+      let e : pairRoom (r .index) + pairRoom 1 + (pairRoom count - pairRoom (r .behind)) ≡ pairRoom (r .pairs) =
+      omega (arith, ap pairRoom (h .pairs-is), room-add (r .index + 1) (count - r .behind), room-add (r .index) 1, room-add (r .behind) (count - r .behind), ap pairRoom b) in
+      record { order = room-mono (r .behind) count (h .above .inside); inside = w .pairs-inside; fits = omega arith }
 
   pub values-fit : r .values ≤ length values → Spliceable (r .start) (r .from) (r .end) n (length values)
-  values-fit l = record { order = omega (arith, start-within (h .above), h .end-is); inside = omega (arith, h .end-is, w .values-inside); fits = omega (arith, h .values-is) }
+  values-fit l = record { order = omega (arith, start-within (h .above), h .end-is); inside = omega (arith, h .end-is, values-inside w); fits = omega (arith, h .values-is) }
 
 -- ---- the call
 
 -- a walk may add up the lengths of a well-formed map, whose values are in a buffer
-pub in-order : {slots count : ℕ} {pairs values : List ℕ} → WellFormed slots count pairs values → length values ≤ 2 ^ 63 → InOrder count pairs
-in-order w l = record { inside = w .pairs-inside; small = omega (arith, w .values-inside); rising = w .rising }
+pub in-order : {slots count : ℕ} {pairs values : List ℕ} → WellFormed slots count pairs values → slots ≤ 65536 → length values ≤ 2 ^ 63 → InOrder count pairs
+in-order w s l = record { inside = w .pairs-inside; few = omega (arith, count-low w); small = omega (arith, values-inside w); rising = w .rising }
 
 -- past the refusals of the map and of the length of the new values: k is the offset, r the change, and the room decides
 pub record Decided (slots count : ℕ) (pairs values : List ℕ) (index : ℤ) (vs : List ℕ) (k : ℕ) (r : Change) : Type 0 where
   pub offset-is : k ≡ residueOf index slots
   pub formed : WellFormed slots count pairs values
   pub change : Changed count pairs (residueOf index slots) (length vs) r
-  pub refusal : setRefusal slots count pairs values index vs ≡ firstOf ((noRoom (setMap slots count pairs values index vs) pairs values, 12) ∷ [])
+  pub refusal : setRefusal slots count pairs values index vs ≡ firstOf (mapRoom (setMap slots count pairs values index vs) pairs values)
 
 module _ {slots count : ℕ} {pairs values : List ℕ} {code : ℕ} (j : Judged slots count pairs values code) (index : ℤ) (vs : List ℕ) where
   abbrev later : List (Bool × ℕ)
-  later = (noPeriod slots (length vs), 4) ∷ (noRoom (setMap slots count pairs values index vs) pairs values, 12) ∷ []
+  later = (noPeriod slots (length vs), 4) ∷ mapRoom (setMap slots count pairs values index vs) pairs values
 
   pub refused-map : (code ≡ 0 → ⊥) → MapWritten (setRefusal slots count pairs values index vs) (setMap slots count pairs values index vs) pairs pairs values values (Refused code)
   refused-map h = written-refused (then-refused j later h) h
@@ -197,17 +204,18 @@ module _ {slots count : ℕ} {pairs values : List ℕ} {index : ℤ} {vs : List 
   abbrev Written : List ℕ → List ℕ → Answer → Type 0
   Written pairs₁ values₁ = MapWritten (setRefusal slots count pairs values index vs) ds pairs pairs₁ values values₁
 
-  pub refused-pairs : length pairs < 2 * r .pairs → Written pairs values (Refused 12)
-  refused-pairs l = written-refused (sym (d .refusal ∙ rw (no-room-pairs ds pairs values (rw (length-new (d .formed) vs (d .change)) l)))) (suc-ne-zero 11)
+  room-is : {x : ℕ} → RoomJudged (r .pairs) (r .values) (length pairs) (length values) x → x ≡ setRefusal slots count pairs values index vs
+  room-is j = room-of ds pairs values (sym (length-new (d .formed) vs (d .change))) (sym (length-new-values (d .formed) vs (d .change))) j ∙ sym (d .refusal)
 
-  pub refused-values : length values < r .values → Written pairs values (Refused 12)
-  refused-values l = written-refused (sym (d .refusal ∙ rw (no-room-values ds pairs values (rw (length-new-values (d .formed) vs (d .change)) l)))) (suc-ne-zero 11)
+  pub refused-room : {x : ℕ} → RoomJudged (r .pairs) (r .values) (length pairs) (length values) x → (x ≡ 0 → ⊥) → Written pairs values (Refused x)
+  refused-room j n = written-refused (room-is j) n
 
   -- the spliced words are those of the map
-  pub accepted : {pairs₁ values₁ : List ℕ} → 2 * r .pairs ≤ length pairs → r .values ≤ length values → pairs₁ ≡ spliced (2 * r .index) (2 * r .behind) (2 * count) (k ∷ length vs ∷ []) pairs → values₁ ≡ spliced (r .start) (r .from) (r .end) vs values → Written pairs₁ values₁ (Is (r .pairs))
-  accepted l m a b =
+  pub accepted : {x : ℕ} {pairs₁ values₁ : List ℕ} → RoomJudged (r .pairs) (r .values) (length pairs) (length values) x → x ≡ 0
+      → pairs₁ ≡ spliced (pairRoom (r .index)) (pairRoom (r .behind)) (pairRoom count) (pairOf (record { offset = k; values = vs })) pairs → values₁ ≡ spliced (r .start) (r .from) (r .end) vs values → Written pairs₁ values₁ (Is (r .pairs))
+  accepted j z a b =
       written-accepted
-      (d .refusal ∙ rw (room-for ds pairs values (rw (length-new (d .formed) vs (d .change)) l) (rw (length-new-values (d .formed) vs (d .change)) m)))
+      (sym (room-is j) ∙ z)
       (sym (length-new (d .formed) vs (d .change)))
       (rw (d .offset-is) at a ∙ set-pairs (d .formed) vs (d .change))
       (b ∙ set-values (d .formed) vs (d .change))

@@ -1,6 +1,6 @@
 -- Laws of the words of a map: what well formed means, where values stand, which diagonal is found.
 -- Assumes nothing.
-use Prim.Native.Nat.{ℕ, zero, suc, _+_, _*_, _≤_, _<_}
+use Prim.Native.Nat.{ℕ, zero, suc, _+_, _≤_, _<_, _∣_}
 use mathlib.Core.Path.{_≡_, refl, sym, ap, _∙_}
 use mathlib.Core.Bool.{Bool, true, false, _&&_}
 use mathlib.Core.List.{List, [], _∷_, _++_, map}
@@ -8,8 +8,8 @@ use mathlib.Core.Logic.{_⊎_, inl, inr, ⊎-elim}
 use native.Mathlib.Nat.{eq-or-lt-of-le, not-suc-le-zero, le-of-suc-le-suc, le-of-eq, le-trans}
 use native.Mathlib.Numerals.{add-one}
 use native.Mathlib.Omega.{arith}
-use borrow.Author.Tests.{eq-eqb, ne-eqb, lt-ltb, le-ltb, ltb-true, leb-true}
-use lib.Dec.{leb, ltb}
+use borrow.Author.Tests.{eq-eqb, ne-eqb, eqb-true, lt-ltb, le-ltb, le-leb, ltb-true, leb-true}
+use lib.Dec.{leb, ltb, eqb}
 use lib.ListN.{length, take, drop, length-take, length-drop}
 use Rattle.ring.specs.Vectors.{tabulate}
 use Rattle.ring.specs.Searches.{every}
@@ -17,11 +17,11 @@ use Rattle.ring.specs.Laws.Vectors.{length-tabulate, map-tabulate, tabulate-mor
 use Rattle.ring.specs.Lists.{Each}
 use Rattle.ring.specs.Laws.Lists.{each-tabulate}
 use Rattle.ring.specs.Divisors.{divides}
-use Rattle.ring.specs.Laws.Searches.{first, second, lt-or-ge, every-at}
-use Rattle.ring.specs.Laws.Divisors.{divides-dvd}
-use Rattle.diagonals.specs.Maps.{Diagonal, offsetAt, lengthAt, startAt, diagonalAt, view, formedAt, risesAt, wellFormed, Formed, WellFormed}
+use Rattle.ring.specs.Laws.Searches.{both, first, second, lt-or-ge, every-at}
+use Rattle.ring.specs.Laws.Divisors.{divides-dvd, divides-yes}
+use Rattle.diagonals.specs.Maps.{Diagonal, pairRoom, offsetAt, lengthAt, startAt, diagonalAt, view, formedAs, formedAt, risesAt, wellFormed, Formed, WellFormed}
 use Rattle.diagonals.specs.Products.{stretch}
-use Rattle.diagonals.specs.Steps.{Placed}
+use Rattle.diagonals.specs.Steps.Reading.{Placed}
 
 -- ---- starts
 
@@ -41,9 +41,47 @@ start-mono pairs (suc i) (suc n) h =
 pub end-within : (pairs : List ℕ) (i n : ℕ) → i < n → startAt pairs i + lengthAt pairs i ≤ startAt pairs n
 end-within pairs i n l = omega (arith, start-more pairs i, start-mono pairs (i + 1) n (omega arith))
 
--- where the values of the i-th end
-pub values-end : {slots count : ℕ} {pairs values : List ℕ} (i : ℕ) → WellFormed slots count pairs values → i < count → startAt pairs i + lengthAt pairs i ≤ length values
-values-end {count} {pairs} i w l = le-trans (end-within pairs i count l) (w .values-inside)
+-- the values of the i-th stand inside the buffer exactly if they are all there
+pub inside-whole : (pairs values : List ℕ) (i : ℕ) → startAt pairs i + lengthAt pairs i ≤ length values → length (diagonalAt pairs values i .values) ≡ lengthAt pairs i
+inside-whole pairs values i h = simp (length-take, length-drop) (omega arith)
+
+pub whole-inside : (pairs values : List ℕ) (i : ℕ) → 1 ≤ lengthAt pairs i → length (diagonalAt pairs values i .values) ≡ lengthAt pairs i → startAt pairs i + lengthAt pairs i ≤ length values
+whole-inside pairs values i h e = omega (arith, simp (length-take, length-drop) at e)
+
+-- ---- a well-formed map
+
+module _ {slots count : ℕ} {pairs values : List ℕ} (w : WellFormed slots count pairs values) where
+  module _ (i : ℕ) (l : i < count) where
+    pub stored-some : 1 ≤ lengthAt pairs i
+    stored-some = rw (w .whole i l) at (w .each i l .some)
+
+    pub stored-divides : lengthAt pairs i ∣ slots
+    stored-divides = rw (w .whole i l) at (w .each i l .divides)
+
+    -- where its values end
+    pub values-end : startAt pairs i + lengthAt pairs i ≤ length values
+    values-end = whole-inside pairs values i stored-some (w .whole i l)
+
+  -- offsets rise, so none is below its place
+  offset-above : (i : ℕ) → i < count → i ≤ offsetAt pairs i
+  offset-above zero l = omega arith
+  offset-above (suc i) l = omega (arith, offset-above i (omega arith), w .rising i (suc i) (omega arith) l)
+
+  -- and there are no more pairs than slots
+  pub count-low : count ≤ slots
+  count-low = by count refl
+    where
+      by : (n : ℕ) → count ≡ n → n ≤ slots
+      by zero e = omega arith
+      by (suc n) e = omega (arith, offset-above n (omega arith), w .each n (omega arith) .low)
+
+  -- all values are inside
+  pub values-inside : startAt pairs count ≤ length values
+  values-inside = by count refl
+    where
+      by : (n : ℕ) → count ≡ n → startAt pairs n ≤ length values
+      by zero e = omega arith
+      by (suc n) e = values-end n (omega arith)
 
 -- ---- the view
 
@@ -60,13 +98,6 @@ view-more i pairs values = tabulate-more i (diagonalAt pairs values)
 pub each-view : (P : Diagonal → Type 0) (n : ℕ) (pairs values : List ℕ) → ((i : ℕ) → i < n → P (diagonalAt pairs values i)) → Each P (view n pairs values)
 unfolding view
 each-view P n pairs values h = each-tabulate P n (diagonalAt pairs values) h
-
--- the stored length of a diagonal is that of its values
-pub stored-length : (pairs values : List ℕ) (n i : ℕ) → startAt pairs n ≤ length values → i < n → length (diagonalAt pairs values i .values) ≡ lengthAt pairs i
-stored-length pairs values n i h l = simp (length-take, length-drop) (omega (arith, end-within pairs i n l))
-
-pub length-values : {slots count : ℕ} {pairs values : List ℕ} (i : ℕ) → WellFormed slots count pairs values → i < count → length (diagonalAt pairs values i .values) ≡ lengthAt pairs i
-length-values {count} {pairs} {values} i w l = stored-length pairs values count i (w .values-inside) l
 
 -- the offsets of the view
 pub offsets-view : (count : ℕ) (pairs values : List ℕ) → map (λ d. d .offset) (view count pairs values) ≡ tabulate count (offsetAt pairs)
@@ -92,15 +123,38 @@ pub rises-at : (pairs : List ℕ) (i : ℕ) → risesAt pairs i ≡ true → nex
 rises-at pairs zero h = omega arith
 rises-at pairs (suc i) h = ltb-true _ _ h
 
-pub formed-at : (slots : ℕ) (pairs : List ℕ) (i : ℕ) → formedAt slots pairs i ≡ true → Formed slots (offsetAt pairs i) (lengthAt pairs i)
-formed-at slots pairs i h =
-    let a = first (ltb (offsetAt pairs i) slots) (leb 1 (lengthAt pairs i) && divides (lengthAt pairs i) slots) h in
-    let b = second (ltb (offsetAt pairs i) slots) (leb 1 (lengthAt pairs i) && divides (lengthAt pairs i) slots) h in
-    record {
-      low = ltb-true _ _ a;
-      some = leb-true _ _ (first (leb 1 (lengthAt pairs i)) (divides (lengthAt pairs i) slots) b);
-      divides = divides-dvd _ _ (second (leb 1 (lengthAt pairs i)) (divides (lengthAt pairs i) slots) b);
-    }
+-- a stored diagonal that passes its test
+pub record Passed (slots : ℕ) (pairs values : List ℕ) (i : ℕ) : Type 0 where
+  pub formed : Formed slots (diagonalAt pairs values i)
+  pub whole : length (diagonalAt pairs values i .values) ≡ lengthAt pairs i
+  pub next : nextOf pairs i ≤ offsetAt pairs i
+
+module _ (slots : ℕ) (pairs values : List ℕ) (i : ℕ) where
+  abbrev len : ℕ
+  len = lengthAt pairs i
+
+  abbrev all-there : Bool
+  all-there = eqb (length (diagonalAt pairs values i .values)) len
+
+  pub formed-passes : offsetAt pairs i < slots → 1 ≤ len → len ∣ slots → length (diagonalAt pairs values i .values) ≡ len → nextOf pairs i ≤ offsetAt pairs i → formedAt slots pairs values i ≡ true
+  formed-passes a b c d e = both (both (lt-ltb _ _ a) (both (le-leb _ _ b) (both (divides-yes _ _ c) (eq-eqb _ _ d)))) (rises-yes pairs i e)
+
+  pub formed-at : formedAt slots pairs values i ≡ true → Passed slots pairs values i
+  formed-at h =
+      let rises = second (formedAs slots len (diagonalAt pairs values i)) (risesAt pairs i) h in
+      let a = first (formedAs slots len (diagonalAt pairs values i)) (risesAt pairs i) h in
+      let b = second (ltb (offsetAt pairs i) slots) (leb 1 len && (divides len slots && all-there)) a in
+      let c = second (leb 1 len) (divides len slots && all-there) b in
+      let e : length (diagonalAt pairs values i .values) ≡ len = eqb-true _ _ (second (divides len slots) all-there c) in
+      record {
+        formed = record {
+          low = ltb-true _ _ (first (ltb (offsetAt pairs i) slots) (leb 1 len && (divides len slots && all-there)) a);
+          some = rw e (leb-true _ _ (first (leb 1 len) (divides len slots && all-there) b));
+          divides = rw e (divides-dvd _ _ (first (divides len slots) all-there c));
+        };
+        whole = e;
+        next = rises-at pairs i rises;
+      }
 
 -- each offset is above the one before: so above all before
 pub rising-all : (pairs : List ℕ) (count : ℕ) → ((i : ℕ) → i < count → nextOf pairs i ≤ offsetAt pairs i) → (i j : ℕ) → i < j → j < count → offsetAt pairs i < offsetAt pairs j
@@ -114,15 +168,12 @@ rising-all pairs count h i (suc j) l m =
 pub formed-means : (slots count : ℕ) (pairs values : List ℕ) → wellFormed slots count pairs values ≡ true → WellFormed slots count pairs values
 unfolding wellFormed
 formed-means slots count pairs values h =
-    let each : Bool = every (λ i. formedAt slots pairs i && risesAt pairs i) count in
-    let a = first (leb (2 * count) (length pairs)) (each && leb (startAt pairs count) (length values)) h in
-    let b = second (leb (2 * count) (length pairs)) (each && leb (startAt pairs count) (length values)) h in
-    let c = every-at (λ i. formedAt slots pairs i && risesAt pairs i) count (first each (leb (startAt pairs count) (length values)) b) in
+    let each = every-at (formedAt slots pairs values) count (second (leb (pairRoom count) (length pairs)) (every (formedAt slots pairs values) count) h) in
     record {
-      pairs-inside = leb-true _ _ a;
-      values-inside = leb-true _ _ (second each (leb (startAt pairs count) (length values)) b);
-      each = λ i l. formed-at slots pairs i (first (formedAt slots pairs i) (risesAt pairs i) (c i l));
-      rising = rising-all pairs count (λ i l. rises-at pairs i (second (formedAt slots pairs i) (risesAt pairs i) (c i l)));
+      pairs-inside = leb-true _ _ (first (leb (pairRoom count) (length pairs)) (every (formedAt slots pairs values) count) h);
+      each = λ i l. formed-at slots pairs values i (each i l) .formed;
+      whole = λ i l. formed-at slots pairs values i (each i l) .whole;
+      rising = rising-all pairs count (λ i l. formed-at slots pairs values i (each i l) .next);
     }
 
 -- ---- which diagonal is found
@@ -164,4 +215,4 @@ module _ {slots count : ℕ} {pairs values : List ℕ} (w : WellFormed slots cou
   placed-here l e = stretch-found k count (diagonalAt pairs values) index l e (λ j m q. omega (arith, p .before j m)) ∙ ap (λ (x : ℕ). take (lengthAt pairs index) (drop x values)) (sym (p .start-is))
 
   pub placed-end : index < count → start + lengthAt pairs index ≤ length values
-  placed-end l = rw (p .start-is) (values-end index w l)
+  placed-end l = rw (p .start-is) (values-end w index l)

@@ -17,9 +17,8 @@ use Rattle.ring.specs.Laws.Lists.{each-then, each-tabulate, each-reverse, map-e
 use Rattle.ring.specs.Laws.Vectors.{length-tabulate, getD-tabulate}
 use Rattle.ring.specs.Laws.Searches.{eqb-same}
 use Rattle.ring.specs.Laws.Below.{sum-one}
-use Rattle.diagonals.specs.Maps.{Diagonal, Formed}
-use Rattle.diagonals.specs.Products.{cell, stretch, matrix, term, product}
-use Rattle.diagonals.specs.Laws.Words.{FormedMap}
+use Rattle.diagonals.specs.Maps.{Diagonal, Formed, FormedMap}
+use Rattle.diagonals.specs.Products.{cell, stretch, matrix, term, product, dot}
 
 -- ---- which values an offset finds
 
@@ -76,10 +75,10 @@ module _ (k : ℕ) where
 
 module _ (slots : ℕ) (ds : List Diagonal) (f : FormedMap slots ds) where
   pub formed-low : Each (λ d. d .offset < slots) ds
-  formed-low = each-then (λ d (h : Formed slots (d .offset) (length (d .values))). h .low) ds (f .each)
+  formed-low = each-then (λ d (h : Formed slots d). h .low) ds (f .each)
 
   pub formed-some : Each (λ d. 1 ≤ length (d .values)) ds
-  formed-some = each-then (λ d (h : Formed slots (d .offset) (length (d .values))). h .some) ds (f .each)
+  formed-some = each-then (λ d (h : Formed slots d). h .some) ds (f .each)
 
 -- ---- rows, columns and diagonals
 
@@ -110,10 +109,6 @@ module _ (slots i : ℕ) (l : i < slots) where
       (λ e. sym (meets-own k hk) ∙ ap (meets slots i) e)
 
 -- ---- the product
-
--- a row of n entries times the vector, modulo m
-abbrev pub dot : ℕ → ℕ → (ℕ → ℕ) → List ℕ → ℕ
-dot m n row input = sumBy m (λ j. mulm m (row j) (getD input j 0)) (tabulate n (λ j. j))
 
 pub dot-cong : (m n : ℕ) (r s : ℕ → ℕ) (input : List ℕ) → ((j : ℕ) → j < n → r j ≡ s j) → dot m n r input ≡ dot m n s input
 dot-cong m n r s input same =

@@ -1,6 +1,6 @@
 -- Laws of setting a diagonal: what is read after it, and that the map stays well formed.
 -- Assumes nothing.
-use Prim.Native.Nat.{ℕ, _*_, _≤_, _<_}
+use Prim.Native.Nat.{ℕ, _≤_, _<_}
 use mathlib.Core.Path.{_≡_, refl, sym, ap, _∙_}
 use mathlib.Core.Bool.{cond}
 use mathlib.Core.List.{List, [], _∷_, _++_, map}
@@ -14,10 +14,10 @@ use lib.ListN.{length}
 use Rattle.ring.specs.Lists.{Each, Rising}
 use Rattle.ring.specs.Vectors.{inFront}
 use Rattle.ring.specs.Laws.Lists.{each-then, each-map, map-each}
-use Rattle.diagonals.specs.Maps.{Diagonal, view, Formed, WellFormed}
+use Rattle.diagonals.specs.Maps.{Diagonal, view, Formed, WellFormed, pairWords, valueWords, FormedMap, pairRoom}
 use Rattle.diagonals.specs.Products.{stretch}
-use Rattle.diagonals.specs.Setting.{placed, pairWords, valueWords}
-use Rattle.diagonals.specs.Laws.Words.{FormedMap, formed-view, words-formed}
+use Rattle.diagonals.specs.Setting.{placed}
+use Rattle.diagonals.specs.Laws.Words.{formed-view, words-formed}
 
 -- a number beside another
 pub data Side (a b : ℕ) : Type 0 where
@@ -87,10 +87,10 @@ module _ (k : ℕ) (vs : List ℕ) where
       by-side h (above l) = rw (placed-above d ds l) ((l, each-then (λ x m. omega arith) (map (λ d. d .offset) ds) (r .0)), r)
 
   -- setting keeps a map well formed
-  pub placed-formed : (slots : ℕ) (ds : List Diagonal) → Formed slots k (length vs) → FormedMap slots ds → FormedMap slots (placed k vs ds)
+  pub placed-formed : (slots : ℕ) (ds : List Diagonal) → Formed slots (record { offset = k; values = vs }) → FormedMap slots ds → FormedMap slots (placed k vs ds)
   placed-formed slots ds f m = record { each = placed-each _ f ds (m .each); rising = placed-rising ds (m .rising) }
 
 -- the words of a well-formed map with such a diagonal set are a well-formed map, where they have room
-pub set-formed : {slots count : ℕ} {pairs values : List ℕ} → WellFormed slots count pairs values → (k : ℕ) (vs : List ℕ) → Formed slots k (length vs) → 2 * length (placed k vs (view count pairs values)) ≤ length pairs → length (valueWords (placed k vs (view count pairs values))) ≤ length values → WellFormed slots (length (placed k vs (view count pairs values))) (inFront (pairWords (placed k vs (view count pairs values))) pairs) (inFront (valueWords (placed k vs (view count pairs values))) values)
+pub set-formed : {slots count : ℕ} {pairs values : List ℕ} → WellFormed slots count pairs values → (k : ℕ) (vs : List ℕ) → Formed slots (record { offset = k; values = vs }) → pairRoom (length (placed k vs (view count pairs values))) ≤ length pairs → length (valueWords (placed k vs (view count pairs values))) ≤ length values → WellFormed slots (length (placed k vs (view count pairs values))) (inFront (pairWords (placed k vs (view count pairs values))) pairs) (inFront (valueWords (placed k vs (view count pairs values))) values)
 set-formed {slots} {count} {pairs} {values} w k vs f l m =
     words-formed slots (placed k vs (view count pairs values)) pairs values (placed-formed k vs slots (view count pairs values) f (formed-view slots count pairs values w)) l m

@@ -12,10 +12,9 @@ use Rattle.ring.specs.Laws.Lists.{each-then, each-both, each-map, map-each}
 use Rattle.ring.specs.Laws.Vectors.{length-tabulate}
 use Rattle.ring.specs.Laws.Divisors.{lcmAll-pos, lcmAll-most, lcmAll-multiple}
 use Rattle.ring.specs.Laws.Periods.{positive, around-multiple, min-is, min-shift}
-use Rattle.diagonals.specs.Maps.{Diagonal, Formed}
+use Rattle.diagonals.specs.Maps.{Diagonal, Formed, FormedMap}
 use Rattle.diagonals.specs.Products.{cell, matrix, product}
 use Rattle.diagonals.specs.Shrinking.{commonPeriod, atPeriod, shrunk}
-use Rattle.diagonals.specs.Laws.Words.{FormedMap}
 use Rattle.diagonals.specs.Laws.Matrices.{cell-tabulate, stretch-alike, formed-some, Alike, alike-matrix, alike-product}
 
 -- values read modulo a multiple of their smallest period
@@ -76,6 +75,11 @@ offsets-kept : (p : ℕ) (ds : List Diagonal) → map (λ (d : Diagonal). d .off
 offsets-kept p [] = refl
 offsets-kept p (d ∷ ds) = ap (λ (t : List ℕ). d .offset ∷ t) (offsets-kept p ds)
 
+-- shrinking keeps the offsets
+pub shrunk-offsets : (ds : List Diagonal) → map (λ (d : Diagonal). d .offset) (shrunk ds) ≡ map (λ (d : Diagonal). d .offset) ds
+unfolding shrunk
+shrunk-offsets ds = offsets-kept (commonPeriod ds) ds
+
 module _ (slots : ℕ) (ds : List Diagonal) (f : FormedMap slots ds) where
   abbrev some : Each (λ d. 1 ≤ length (d .values)) ds
   some = formed-some slots ds f
@@ -83,14 +87,14 @@ module _ (slots : ℕ) (ds : List Diagonal) (f : FormedMap slots ds) where
   pub common-slots : commonPeriod ds ∣ slots
   common-slots =
       common-most ds some slots
-      (each-then (λ d (h : Formed slots (d .offset) (length (d .values))). dvd-trans (minPeriod (d .values)) (min-is (d .values) (h .some) .divides) (h .divides)) ds (f .each))
+      (each-then (λ d (h : Formed slots d). dvd-trans (minPeriod (d .values)) (min-is (d .values) (h .some) .divides) (h .divides)) ds (f .each))
 
   pub shrunk-formed : FormedMap slots (shrunk ds)
   unfolding shrunk
   shrunk-formed =
       record {
         each = each-map _ (atPeriod (commonPeriod ds)) ds
-            (each-then (λ d (h : Formed slots (d .offset) (length (d .values))). rw (length-tabulate (commonPeriod ds) (cell (d .values))) (record { low = h .low; some = common-pos ds some; divides = common-slots })) ds (f .each));
+            (each-then (λ d (h : Formed slots d). record { low = h .low; some = rw length-tabulate (common-pos ds some); divides = rw length-tabulate common-slots }) ds (f .each));
         rising = rw (offsets-kept (commonPeriod ds) ds) (f .rising);
       }
 

@@ -18,12 +18,11 @@ use Rattle.ring.specs.Laws.Searches.{eqb-same}
 use Rattle.ring.specs.Laws.Residues.{residue-pos}
 use Rattle.ring.specs.Vectors.{tabulate}
 use Rattle.ring.specs.Laws.Vectors.{map-tabulate, reverse-tabulate, tabulate-cong}
-use Rattle.diagonals.specs.Maps.{Diagonal, Formed, diagonalAt, offsetAt, view}
-use Rattle.diagonals.specs.Products.{cell, stretch, matrix, product}
+use Rattle.diagonals.specs.Maps.{Diagonal, offsetsOf, Formed, diagonalAt, offsetAt, view, FormedMap}
+use Rattle.diagonals.specs.Products.{cell, stretch, matrix, product, dot}
 use Rattle.diagonals.specs.Transposing.{opposite, turned, transposed}
-use Rattle.diagonals.specs.Steps.{spin, leading, turnedAt}
-use Rattle.diagonals.specs.Laws.Words.{FormedMap}
-use Rattle.diagonals.specs.Laws.Matrices.{formed-low, dot, dot-cong, product-is-matrix, stretch-each, stretch-reverse, meets, meets-own, own-meets}
+use Rattle.diagonals.specs.Steps.Writing.{spin, leading, turnedAt}
+use Rattle.diagonals.specs.Laws.Matrices.{formed-low, dot-cong, product-is-matrix, stretch-each, stretch-reverse, meets, meets-own, own-meets}
 
 reversed : (slots n : ℕ) (f : ℕ → Diagonal) → reverse (map (turned slots) (tabulate n f)) ≡ tabulate n (λ i. turned slots (f (n - 1 - i)))
 reversed slots n f = ap reverse (map-tabulate (turned slots) n f) ∙ reverse-tabulate n (λ i. turned slots (f i))
@@ -153,36 +152,33 @@ module _ (slots k : ℕ) (l : k < slots) where
       ∙ sym (mod-mod-of-dvd (length v) (i + k) d)
       ∙ ap (λ (x : ℕ). x % length v) e)
 
--- ---- its offsets rise
-
-abbrev offsets : List Diagonal → List ℕ
-offsets ds = map (λ d. d .offset) ds
+-- ---- its offsetsOf rise
 
 module _ (slots : ℕ) where
-  turned-offsets : (xs : List Diagonal) → offsets (map (turned slots) xs) ≡ map (opposite slots) (offsets xs)
-  turned-offsets [] = refl
-  turned-offsets (x ∷ xs) = ap (λ (t : List ℕ). opposite slots (x .offset) ∷ t) (turned-offsets xs)
+  turned-offsetsOf : (xs : List Diagonal) → offsetsOf (map (turned slots) xs) ≡ map (opposite slots) (offsetsOf xs)
+  turned-offsetsOf [] = refl
+  turned-offsetsOf (x ∷ xs) = ap (λ (t : List ℕ). opposite slots (x .offset) ∷ t) (turned-offsetsOf xs)
 
   abbrev Inner : Diagonal → Type 0
   Inner d = (0 < d .offset) × (d .offset < slots)
 
-  -- of offsets that are not 0
-  inner-rising : (ds : List Diagonal) → Each Inner ds → Rising (offsets ds) → Rising (map (opposite slots) (offsets (reverse ds)))
+  -- of offsetsOf that are not 0
+  inner-rising : (ds : List Diagonal) → Each Inner ds → Rising (offsetsOf ds) → Rising (map (opposite slots) (offsetsOf (reverse ds)))
   inner-rising ds h r =
-      subst Rising (sym (ap (map (opposite slots)) (map-reverse (λ (d : Diagonal). d .offset) ds) ∙ map-reverse (opposite slots) (offsets ds)))
-      (rising-reverse (opposite slots) (λ x. (0 < x) × (x < slots)) (λ x y p q l. opposite-falls slots x y (p .0) (q .1) l) (offsets ds) (each-map (λ x. (0 < x) × (x < slots)) (λ (d : Diagonal). d .offset) ds h) r)
+      subst Rising (sym (ap (map (opposite slots)) (map-reverse (λ (d : Diagonal). d .offset) ds) ∙ map-reverse (opposite slots) (offsetsOf ds)))
+      (rising-reverse (opposite slots) (λ x. (0 < x) × (x < slots)) (λ x y p q l. opposite-falls slots x y (p .0) (q .1) l) (offsetsOf ds) (each-map (λ x. (0 < x) × (x < slots)) (λ (d : Diagonal). d .offset) ds h) r)
 
-  ordered-rising : (ds : List Diagonal) → Each (λ d. d .offset < slots) ds → Rising (offsets ds) → Rising (map (opposite slots) (offsets (ordered ds)))
+  ordered-rising : (ds : List Diagonal) → Each (λ d. d .offset < slots) ds → Rising (offsetsOf ds) → Rising (map (opposite slots) (offsetsOf (ordered ds)))
   ordered-rising [] h r = tt
   ordered-rising (d ∷ ds) h r = by (eqb (d .offset) 0) refl
     where
       above : Each Inner ds
       above = each-both (λ x l m. (omega arith, m)) ds (map-each (λ y. d .offset < y) (λ (x : Diagonal). x .offset) ds (r .0)) (h .1)
 
-      by : (b : Bool) → eqb (d .offset) 0 ≡ b → Rising (map (opposite slots) (offsets (cond b (d ∷ reverse ds) (reverse (d ∷ ds)))))
+      by : (b : Bool) → eqb (d .offset) 0 ≡ b → Rising (map (opposite slots) (offsetsOf (cond b (d ∷ reverse ds) (reverse (d ∷ ds)))))
       by true e =
           let z : opposite slots (d .offset) ≡ 0 = ap (opposite slots) (eqb-true _ _ e) ∙ opposite-zero slots in (
-            each-map (λ y. opposite slots (d .offset) < y) (opposite slots) (offsets (reverse ds))
+            each-map (λ y. opposite slots (d .offset) < y) (opposite slots) (offsetsOf (reverse ds))
                 (each-map (λ y. opposite slots (d .offset) < opposite slots y) (λ (x : Diagonal). x .offset) (reverse ds)
                 (each-reverse (λ x. opposite slots (d .offset) < opposite slots (x .offset)) ds
                 (each-then (λ x (p : Inner x). rw (z, opposite-is slots (x .offset) (p .0) (p .1)) (omega (arith, p .1))) ds above))),
@@ -206,7 +202,7 @@ module _ (slots : ℕ) (ds : List Diagonal) (f : FormedMap slots ds) where
       let l : k < slots = mod-lt (j + (slots - i)) (omega arith) in
       ap (λ (v : List ℕ). cell v i) (transposed-stretch k l)
       ∙ stretch-each (opposite slots k) (λ v. cell (spun slots k l v) i ≡ cell v j) refl ds
-      (each-then (λ d (h : Formed slots (d .offset) (length (d .values))). spun-cell slots k l (d .values) i j (h .some) (h .divides) (own-meets slots i hi j hj)) ds (f .each))
+      (each-then (λ d (h : Formed slots d). spun-cell slots k l (d .values) i j (h .some) (h .divides) (own-meets slots i hi j hj)) ds (f .each))
       ∙ ap (λ (x : ℕ). cell (stretch ds x) j) (meets-opposite slots i j hi hj)
 
   -- and the map is well formed again
@@ -214,8 +210,8 @@ module _ (slots : ℕ) (ds : List Diagonal) (f : FormedMap slots ds) where
   transposed-formed =
       record {
         each = rw (transposed-map slots ds) (each-map _ (turned slots) (ordered ds)
-            (each-then (λ d (h : Formed slots (d .offset) (length (d .values))). rw length-rotated (record { low = opposite-lt slots (d .offset) (h .low); some = h .some; divides = h .divides })) (ordered ds) (ordered-each _ ds (f .each))));
-        rising = rw (transposed-map slots ds, turned-offsets) (ordered-rising slots ds (formed-low slots ds f) (f .rising));
+            (each-then (λ d (h : Formed slots d). record { low = opposite-lt slots (d .offset) (h .low); some = rw length-rotated (h .some); divides = rw length-rotated (h .divides) }) (ordered ds) (ordered-each _ ds (f .each))));
+        rising = rw (transposed-map slots ds, turned-offsetsOf) (ordered-rising slots ds (formed-low slots ds f) (f .rising));
       }
 
   -- so its product is the transposed matrix times the vector

@@ -5,15 +5,15 @@ use mathlib.Core.Path.{_≡_, refl, sym, ap, _∙_}
 use mathlib.Core.List.{List, [], _∷_, _++_, append-assoc}
 use native.Mathlib.Nat.{zero-mul, suc-mul, le-refl}
 use native.Mathlib.Omega.{arith}
-use lib.ListN.{length, set, take, drop, length-append}
+use lib.ListN.{length, take, drop, length-append}
 use lib.Seq.{take-at, drop-append-add, drop-drop}
 use Rattle.ring.specs.Vectors.{tabulate, inFront}
-use Rattle.ring.specs.Laws.Vectors.{inFront-more, length-inFront, inFront-inFront}
+use Rattle.ring.specs.Laws.Vectors.{length-inFront, inFront-inFront}
 use Rattle.ring.specs.Lists.{Each}
-use Rattle.diagonals.specs.Maps.{Diagonal}
-use Rattle.diagonals.specs.Setting.{pairWords, valueWords}
-use Rattle.diagonals.specs.Laws.Words.{pairWords-more, valueWords-more, length-pairWords}
-use Rattle.diagonals.specs.Steps.{Words, spin, Appended}
+use Rattle.diagonals.specs.Maps.{Diagonal, pairWords, valueWords, pairRoom, putPair}
+use Rattle.diagonals.specs.Laws.Words.{pairWords-more, valueWords-more}
+use Rattle.diagonals.specs.Laws.Pairs.{length-pairWords, put-more}
+use Rattle.diagonals.specs.Steps.Writing.{Words, spin, Appended}
 
 -- ---- nothing written, and one diagonal more
 
@@ -21,26 +21,16 @@ pub words-none : (pairs values : List ℕ) → Words [] pairs pairs values value
 unfolding pairWords valueWords inFront
 words-none pairs values = record { pairs-is = refl; values-is = refl }
 
--- two words more in front
-pub inFront-two : (front old : List ℕ) (m a b : ℕ) → length front ≡ m → m + 2 ≤ length old → set (set (inFront front old) m a) (m + 1) b ≡ inFront (front ++ (a ∷ b ∷ [])) old
-inFront-two front old m a b e l =
-    ap (λ (t : List ℕ). set t (m + 1) b) (inFront-more front old m a e (omega arith))
-    ∙ inFront-more (front ++ (a ∷ [])) old (m + 1) b (simp length-append (omega arith)) (omega arith)
-    ∙ ap (λ (t : List ℕ). inFront t old) (append-assoc front (a ∷ []) (b ∷ []))
-
 module _ {ds : List Diagonal} {pairs₀ pairs values₀ values : List ℕ} (w : Words ds pairs₀ pairs values₀ values) (d : Diagonal) where
-  pub words-more : {n at : ℕ} → n ≡ length ds → at ≡ length (valueWords ds) → 2 * n + 2 ≤ length pairs₀ → at + length (d .values) ≤ length values₀
-      → Words (ds ++ (d ∷ [])) pairs₀ (set (set pairs (2 * n) (d .offset)) (2 * n + 1) (length (d .values))) values₀ (take at values ++ (d .values ++ drop (at + length (d .values)) values))
+  pub words-more : {n at : ℕ} → n ≡ length ds → at ≡ length (valueWords ds) → pairRoom (n + 1) ≤ length pairs₀ → at + length (d .values) ≤ length values₀
+      → Words (ds ++ (d ∷ [])) pairs₀ (putPair pairs n (d .offset) (length (d .values))) values₀ (take at values ++ (d .values ++ drop (at + length (d .values)) values))
   unfolding inFront
   words-more {n} {at} en ea lp lv = record { pairs-is = pairs-is; values-is = values-is }
     where
-      front : 2 * n ≡ length (pairWords ds)
-      front = omega (arith, length-pairWords ds)
-
-      pairs-is : set (set pairs (2 * n) (d .offset)) (2 * n + 1) (length (d .values)) ≡ inFront (pairWords (ds ++ (d ∷ []))) pairs₀
+      pairs-is : putPair pairs n (d .offset) (length (d .values)) ≡ inFront (pairWords (ds ++ (d ∷ []))) pairs₀
       pairs-is =
-          ap (λ (t : List ℕ). set (set t (2 * n) (d .offset)) (2 * n + 1) (length (d .values))) (w .pairs-is)
-          ∙ inFront-two (pairWords ds) pairs₀ (2 * n) (d .offset) (length (d .values)) (sym front) lp
+          ap (λ (t : List ℕ). putPair t n (d .offset) (length (d .values))) (w .pairs-is)
+          ∙ put-more ds d pairs₀ n en lp
           ∙ ap (λ (t : List ℕ). inFront t pairs₀) (sym (pairWords-more ds d))
 
       values-is : take at values ++ (d .values ++ drop (at + length (d .values)) values) ≡ valueWords (ds ++ (d ∷ [])) ++ drop (length (valueWords (ds ++ (d ∷ [])))) values₀
@@ -49,7 +39,7 @@ module _ {ds : List Diagonal} {pairs₀ pairs values₀ values : List ℕ} (w : 
 
 -- by a step that appends one
 pub words-appended : {ds : List Diagonal} {pairs₀ pairs₁ pairs₂ values₀ values₁ values₂ src : List ℕ} {from offset len n at : ℕ} (d : Diagonal) → Words ds pairs₀ pairs₁ values₀ values₁
-    → n ≡ length ds → at ≡ length (valueWords ds) → 2 * n + 2 ≤ length pairs₀ → at + len ≤ length values₀ → offset ≡ d .offset → len ≡ length (d .values) → tabulate len (spin src from) ≡ d .values
+    → n ≡ length ds → at ≡ length (valueWords ds) → pairRoom (n + 1) ≤ length pairs₀ → at + len ≤ length values₀ → offset ≡ d .offset → len ≡ length (d .values) → tabulate len (spin src from) ≡ d .values
     → Appended src from offset len n at pairs₁ pairs₂ values₁ values₂ → Words (ds ++ (d ∷ [])) pairs₀ pairs₂ values₀ values₂
 words-appended {values₁} {n} {at} d w en ea lp lv eo el ev a =
     let m = words-more w d en ea lp (rw (← el) lv) in
@@ -67,7 +57,7 @@ length-valueWords p [] h = sym (zero-mul p)
 length-valueWords p (d ∷ ds) h = simp length-append (omega (arith, h .0, length-valueWords p ds (h .1), suc-mul (length ds) p))
 
 -- the buffers keep their lengths
-pub words-lengths : {ds : List Diagonal} {pairs₀ pairs values₀ values : List ℕ} → Words ds pairs₀ pairs values₀ values → 2 * length ds ≤ length pairs₀ → length (valueWords ds) ≤ length values₀ → (length pairs ≡ length pairs₀) × (length values ≡ length values₀)
+pub words-lengths : {ds : List Diagonal} {pairs₀ pairs values₀ values : List ℕ} → Words ds pairs₀ pairs values₀ values → pairRoom (length ds) ≤ length pairs₀ → length (valueWords ds) ≤ length values₀ → (length pairs ≡ length pairs₀) × (length values ≡ length values₀)
 words-lengths {ds} {pairs₀} {values₀} w a b =
     (ap length (w .pairs-is) ∙ length-inFront (pairWords ds) pairs₀ (omega (arith, length-pairWords ds)), ap length (w .values-is) ∙ length-inFront (valueWords ds) values₀ b)
 

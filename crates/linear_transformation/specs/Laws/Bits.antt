@@ -18,9 +18,9 @@ use Rattle.ring.specs.Searches.{least}
 use Rattle.ring.specs.Laws.Searches.{Found, least-found, first, second, both}
 use Rattle.linear_transformation.specs.declared.digits.Rot.{Rot}
 use Rattle.linear_transformation.specs.declared.digits.Digit.{Digit}
-use Rattle.linear_transformation.specs.Digits.{digit, within, allWithin, largest, bitsOf}
+use Rattle.linear_transformation.specs.Digits.{digit, within, allWithin, largest, bitsOf, Giant}
 use Rattle.linear_transformation.specs.Laws.Closures.{above}
-use Rattle.linear_transformation.specs.Laws.Digits.{Giant, Shape, low, high, shape}
+use Rattle.linear_transformation.specs.Laws.Digits.{Shape, low, high, shape}
 
 -- ---- the range of b
 

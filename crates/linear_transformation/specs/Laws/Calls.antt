@@ -1,4 +1,5 @@
--- What an accepted call means: a baby is its multiple of the step, and a giant its digit's, modulo slots.
+-- What answers say: the refusal and the numbers that they were made of. What an accepted call means: a baby is its multiple
+-- times the step, and a giant its digit times the step, modulo slots.
 -- Assumes nothing.
 use Prim.Native.Nat.{ℕ, zero, suc, _*_, _%_, _^_, _<_}
 use mathlib.Core.Path.{_≡_, refl, ap}
@@ -14,18 +15,40 @@ use Rattle.ring.specs.Refusals.{pick, onAccept, outside}
 use Rattle.ring.specs.Laws.Residues.{residue-lt}
 use Rattle.ring.specs.Laws.Refusals.{pick-none, inside}
 use Rattle.linear_transformation.specs.declared.digits.Digit.{Digit}
-use Rattle.linear_transformation.specs.Digits.{rotOf, digit}
-use Rattle.linear_transformation.specs.Rotations.{noBaby, babyMultiple}
-use Rattle.linear_transformation.specs.Calls.{babyRefusal, digitRefusal, digitNumbers, digitAnswered}
-use Rattle.linear_transformation.specs.Laws.Digits.{Giant, digit-turns}
+use Rattle.linear_transformation.specs.declared.rotations.TreeAnswer.the-variants.{NoTree}
+use Rattle.linear_transformation.specs.Digits.{rotOf, digit, Giant}
+use Rattle.linear_transformation.specs.Listed.{noBaby, babyMultiple}
+use Rattle.linear_transformation.specs.Calls.{babyRefusal, digitRefusal, digitNumbers, digitAnswered, planNumbers, planAnswered, passNumbers, passAnswered, treeNumbers, treeAnswered}
+use Rattle.linear_transformation.specs.Trees.{Tree, treeSwitches}
+use mathlib.Core.List.{[], _∷_}
+use Rattle.linear_transformation.specs.Laws.Digits.{digit-turns}
 use Rattle.linear_transformation.specs.Laws.Bits.{digit-small}
 
 -- the refusal and the digit that an answer was made of
-pub numbers-answered : (e : ℕ) (d : Digit) → digitNumbers (digitAnswered e d) ≡ (e, onAccept e (d .0) (pos 0))
-numbers-answered zero d = refl
-numbers-answered (suc e) d = refl
+pub digit-numbers-answered : (e : ℕ) (d : Digit) → digitNumbers (digitAnswered e d) ≡ (e, onAccept e (d .0) (pos 0))
+digit-numbers-answered zero d = refl
+digit-numbers-answered (suc e) d = refl
 
--- no refusal: the first condition does not hold, nor a later one
+-- the refusal and the numbers of babies, giants and diagonals that a plan's answer was made of
+pub plan-numbers-answered : (e b g d : ℕ) → planNumbers (planAnswered e b g d) ≡ e ∷ onAccept e b 0 ∷ onAccept e g 0 ∷ onAccept e d 0 ∷ []
+plan-numbers-answered zero b g d = refl
+plan-numbers-answered (suc e) b g d = refl
+
+-- the refusal and the numbers of passes and moves that an answer was made of
+pub pass-numbers-answered : (e p m : ℕ) → passNumbers (passAnswered e p m) ≡ e ∷ onAccept e p 0 ∷ onAccept e m 0 ∷ []
+pass-numbers-answered zero p m = refl
+pass-numbers-answered (suc e) p m = refl
+
+-- the refusal, b and the number of pairs that a tree's answer was made of
+pub tree-numbers-answered : (e : ℕ) (t : Tree) → treeNumbers (treeAnswered e t) ≡ e ∷ onAccept e (t .bits) 0 ∷ onAccept e (treeSwitches t) 0 ∷ []
+tree-numbers-answered zero t = refl
+tree-numbers-answered (suc e) t = refl
+
+-- per rotation there is no tree: no refusal, and zeros
+pub tree-numbers-none : treeNumbers NoTree ≡ 0 ∷ 0 ∷ 0 ∷ []
+tree-numbers-none = refl
+
+-- where nothing is refused, the first condition does not hold, and nothing after it refuses
 none : (b : Bool) (n x : ℕ) → pick b (suc n) x ≡ 0 → (b ≡ false) × (x ≡ 0)
 none b n x h = pick-none b (suc n) x (suc-ne-zero n) h
 
@@ -34,7 +57,7 @@ third true b c h = absurd (true≢false h)
 third false true c h = absurd (true≢false h)
 third false false c h = h
 
--- a baby that is accepted is its multiple of the step
+-- a baby that is accepted is its multiple times the step
 multiple : (baby : ℤ) (step : ℕ) → noBaby baby step ≡ false → pos (babyMultiple baby step * step) ≡ baby
 multiple (pos n) step h =
     let d : n % step ≡ 0 = eqb-true _ 0 (not-false _ (third (ltb n 0) (ltb 65535 n) _ h)) in

@@ -10,14 +10,13 @@ use native.Mathlib.Omega.{arith}
 use borrow.Author.Tests.{eqb-true, leb-true, le-leb}
 use lib.Dec.{leb, eqb}
 use lib.Pow.{pow-pos, pow-mono}
-use Rattle.ring.specs.Lists.{join, Each, Rising}
+use Rattle.ring.specs.Lists.{join, Each, Rising, among}
 use Rattle.ring.specs.Searches.{below, only}
 use Rattle.ring.specs.Laws.Searches.{by-false, lt-or-ge, greatest-is}
 use Rattle.ring.specs.Laws.Lists.{rising-map}
 use Rattle.ring.specs.Laws.Below.{below-ext, below-low, below-rising}
-use Rattle.linear_transformation.specs.Plans.{among}
 use Rattle.linear_transformation.specs.Closures.{topBit, cleared, metIn, met, closure, babyClosure}
-use Rattle.linear_transformation.specs.Laws.Members.{one-of, right, among-head, among-left, among-right, among-split, among-join, among-joined, among-below, below-among, each-among, among-each}
+use Rattle.ring.specs.Laws.Members.{one-of, right, among-head, among-left, among-right, among-split, among-join, among-joined, among-below, below-among, each-among, among-each}
 
 -- ---- the top bit
 
@@ -25,7 +24,7 @@ pub above : (n : ℕ) → n < 2 ^ n
 above zero = pow-pos 0
 above (suc n) = omega (arith, above n)
 
--- a number in 2^i..2^(i+1) has the top bit i
+-- a number of at least 2^i and below 2^(i+1) has its top bit at i
 pub top-unique : (k i : ℕ) → 2 ^ i ≤ k → k < 2 ^ suc i → topBit k ≡ i
 unfolding topBit
 top-unique k i l h =
@@ -97,7 +96,7 @@ cleared-in (suc n) (suc k) m l h q =
     (λ a. cleared-in n (cleared (suc k)) m (omega arith) a q)
     (one-of (eqb (suc k) m) _ h))
 
--- what is met stays met when its top bit is cleared
+-- what is met, with its top bit cleared, is met too, unless it is 0
 pub met-cleared : (k m : ℕ) → among m (met k) ≡ true → 1 ≤ cleared m → among (cleared m) (met k) ≡ true
 met-cleared k m h q = cleared-in k k m (le-refl k) h q
 
@@ -109,7 +108,7 @@ met-positive (suc n) zero m h = absurd (true≢false (sym h))
 met-positive (suc n) (suc k) m h =
     ⊎-elim (λ a. omega (arith, eqb-true (suc k) m a)) (λ a. met-positive n (cleared (suc k)) m a) (one-of (eqb (suc k) m) _ h)
 
--- and has all that clearing keeps
+-- what holds of k, and goes on to hold when a top bit is cleared, holds of all that is met from k
 pub met-least : (P : ℕ → Type 0) → ((k : ℕ) → P k → 1 ≤ cleared k → P (cleared k)) → (n k : ℕ) → (1 ≤ k → P k) → Each P (metIn n k)
 unfolding metIn
 met-least P c zero k h = tt

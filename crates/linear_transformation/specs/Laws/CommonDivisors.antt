@@ -9,15 +9,15 @@ use native.Mathlib.Nat.{one-dvd, dvd-zero, dvd-trans, dvd-antisymm, le-of-dvd, e
 use native.Mathlib.Omega.{arith}
 use borrow.Author.Tests.{eqb-true}
 use lib.Dec.{eqb}
-use Rattle.ring.specs.Lists.{Each}
+use Rattle.ring.specs.Lists.{Each, some}
 use Rattle.ring.specs.Searches.{orElse}
 use Rattle.ring.specs.Divisors.{gcdOf, gcdAll}
 use Rattle.ring.specs.Laws.Lists.{each-then, each-append, each-map, map-each}
 use Rattle.ring.specs.Laws.Divisors.{is-gcd, gcd-zero}
-use Rattle.linear_transformation.specs.Plans.{some, babyOf, babies}
+use Rattle.linear_transformation.specs.Plans.{babyOf, babies, Planned}
 use Rattle.linear_transformation.specs.Schedules.{babyStep}
-use Rattle.linear_transformation.specs.Laws.Members.{one-of, among-each, each-among, below-among}
-use Rattle.linear_transformation.specs.Laws.Plans.{Planned, babies-have}
+use Rattle.ring.specs.Laws.Members.{one-of, among-each, each-among, below-among}
+use Rattle.linear_transformation.specs.Laws.Plans.{babies-have}
 use Rattle.linear_transformation.specs.Laws.Runs.{some-member, babies-bound}
 
 -- ---- the greatest common divisor of a list
@@ -40,7 +40,7 @@ gcdAll-common (x ∷ xs) =
 pub gcdAll-is : (xs : List ℕ) (g : ℕ) → Common xs g → gcdAll xs ≡ g
 gcdAll-is xs g c = let k = gcdAll-common xs in dvd-antisymm (c .most (gcdAll xs) (k .divides)) (k .most g (c .divides))
 
--- lists with the same divisors
+-- lists with the same common divisors have the same greatest one
 pub gcdAll-same : (xs ys : List ℕ) → ((d : ℕ) → Each (λ x. d ∣ x) xs → Each (λ x. d ∣ x) ys) → ((d : ℕ) → Each (λ x. d ∣ x) ys → Each (λ x. d ∣ x) xs) → gcdAll xs ≡ gcdAll ys
 gcdAll-same xs ys to from =
     let c = gcdAll-common ys in

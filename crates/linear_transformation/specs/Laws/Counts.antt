@@ -1,4 +1,4 @@
--- Counting the numbers below a bound that a test takes; a set of numbers, its halves, and its odd members.
+-- Counting the numbers below a bound that pass a test; a set of numbers, its halves, and its odd members.
 -- Assumes nothing.
 use Prim.Native.Nat.{ℕ, zero, suc, _+_, _*_, _≤_, _<_, zero-le}
 use mathlib.Core.Path.{_≡_, refl, sym, ap, ap₂, _∙_}
@@ -73,7 +73,7 @@ bit-either : (x y : Bool) → bit (x || y) ≤ bit x + bit y
 bit-either true y = omega arith
 bit-either false y = omega arith
 
--- two sets at most together
+-- a union has at most the members of the one set and those of the other
 pub count-either : (p q : ℕ → Bool) (n : ℕ) → count (λ v. p v || q v) n ≤ count p n + count q n
 unfolding count
 count-either p q zero = zero-le
@@ -90,7 +90,7 @@ bits-of false false = refl
 double : (n : ℕ) → 2 * suc n ≡ suc (suc (2 * n))
 double n = omega arith
 
--- the odd members and the halves are as many as the members and the odd members without the even one before them
+-- the odd members and the halves are together as many as the members and those odd ones whose even one is missing
 pub halves : (p q : ℕ → Bool) (n : ℕ) → ((w : ℕ) → q w ≡ (p (2 * w) || p (2 * w + 1)))
     → count (λ w. p (2 * w + 1)) n + count q n ≡ count p (2 * n) + count (λ w. p (2 * w + 1) && not (p (2 * w))) n
 unfolding count
@@ -99,7 +99,7 @@ halves p q (suc n) h = rw (double n, h n, add-one (2 * n)) (omega (arith, halves
 
 -- ---- the odd members
 
--- a pair for each odd member
+-- the odd members, counted
 pub count-odd : (p : ℕ → Bool) (n : ℕ) → length (odds (below p (2 * n))) ≡ count (λ w. p (2 * w + 1)) n
 unfolding count below
 count-odd p zero = refl

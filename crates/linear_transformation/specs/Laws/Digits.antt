@@ -10,7 +10,7 @@ use lib.IntN.{ℤ, pos, negsuc, negℤ, _+ℤ_, _-ℤ_, _*ℤ_, +ℤ-invr}
 use Rattle.ring.specs.Residues.{residueOf}
 use Rattle.ring.specs.Laws.Residues.{residue-pos, residue-unique}
 use Rattle.linear_transformation.specs.declared.digits.Rot.{Rot}
-use Rattle.linear_transformation.specs.Digits.{digit}
+use Rattle.linear_transformation.specs.Digits.{digit, Giant}
 
 -- ---- the digit by its cases
 
@@ -30,7 +30,7 @@ module _ (slots step : ℕ) (rot : Rot) where
   unfolding digit
   digit-from d l = rw (eq-eqb (slots % step) 0 d, le-leb (slots / step) (2 * (rot .0 / step)) l)
 
--- a rotation is less than a period of steps
+-- a reduced rotation is fewer steps than the period
 pub below-period : (slots step rot : ℕ) → slots % step ≡ 0 → rot < slots → rot / step < slots / step
 below-period slots step rot d l = lt-of-mul-lt-mul-right step (omega (arith, div-add-mod' rot step, div-add-mod' slots step))
 
@@ -40,11 +40,6 @@ minus j zero l = absurd (not-suc-le-zero l)
 minus j (suc p) l = rw (lt-ltb j (suc p) l)
 
 -- ---- the digit of a multiple of the step
-
--- a giant: reduced modulo slots, and a multiple of the step
-pub record Giant (slots step : ℕ) (rot : Rot) : Type 0 where
-  pub reduced : rot .0 < slots
-  pub multiple : rot .0 % step ≡ 0
 
 -- the two shapes of a digit: j with j·step = rot, below half the period if the step divides slots;
 -- or -(m + 1) = j - period, with j at least half the period
@@ -74,7 +69,7 @@ module _ (slots step : ℕ) (rot : Rot) (s : 0 < step) (g : Giant slots step rot
   pub shape : Shape slots step (rot .0) (digit slots step rot .0)
   shape = by (ℕ-discrete _ _) (decLe _ _)
 
--- a less a + b
+-- -b is a less a + b
 back : (a b : ℕ) → negℤ (pos b) ≡ pos a -ℤ pos (a + b)
 back a zero = let e : a + 0 ≡ a = omega arith in rw e (sym (+ℤ-invr (pos a)))
 back a (suc b) = sym (minus a (a + suc b) (omega arith) ∙ ap negsuc (omega arith))

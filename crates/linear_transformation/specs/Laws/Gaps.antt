@@ -1,6 +1,7 @@
--- The number of pairs of a tree: one less than the distinct leaves, and the odd nodes without their even one. Of digits
+-- The number of pairs of a tree: one less than the distinct leaves, plus the odd nodes whose even one is missing. Of digits
 -- without a gap, each level has at most one of these, so the pairs are at most (n - 1) + b.
 -- Assumes nothing.
+use Rattle.linear_transformation.specs.Schedules.{NoGap}
 use Prim.Native.Nat.{ℕ, zero, suc, _+_, _*_, _-_, _/_, _^_, _≤_, _<_, zero-le}
 use mathlib.Core.Path.{_≡_, refl, sym, ap, _∙_}
 use mathlib.Core.Bool.{Bool, true, false, not, _||_, _&&_, false≢true, true≢false, or-true}
@@ -25,22 +26,17 @@ use Rattle.ring.specs.Laws.Residues.{residue-lt}
 use Rattle.ring.specs.Laws.Vectors.{tabulate-snoc}
 use Rattle.linear_transformation.specs.declared.digits.Rot.{Rot}
 use Rattle.linear_transformation.specs.declared.digits.Digit.{Digit}
-use Rattle.linear_transformation.specs.Digits.{digit, bitsOf, leaf, levelRotation}
+use Rattle.linear_transformation.specs.Digits.{digit, bitsOf, leaf, levelRotation, Giant}
 use Rattle.linear_transformation.specs.Trees.{digitsOf, leavesOf, there, nodes, pairsAt, Level, levelsOf, treeOf, treeSwitches}
-use Rattle.linear_transformation.specs.Laws.Digits.{Giant}
 use Rattle.linear_transformation.specs.Laws.Bits.{bits-positive, bits-small}
 use Rattle.linear_transformation.specs.Laws.Leaves.{leaf-low, leaf-high, leaves-rise}
-use Rattle.linear_transformation.specs.Laws.Members.{one-of}
+use Rattle.ring.specs.Laws.Members.{one-of}
 use Rattle.linear_transformation.specs.Laws.Trees.{there-half, level-places, odds, withEven, pairs-odds}
 use Rattle.linear_transformation.specs.Laws.Counts.{count, length-below, count-ext, count-with, count-none, count-one, halves, count-odd, lone, count-lone}
 
--- every whole number between two of the digits is one of them
-abbrev pub NoGap : List Digit → Type 0
-NoGap ds = (x y z : ℤ) → List·Memᴰ x (map (λ d. d .0) ds) → List·Memᴰ y (map (λ d. d .0) ds) → x ≤ℤ z → z ≤ℤ y → List·Memᴰ z (map (λ d. d .0) ds)
-
 -- ---- a set with at most one start above 0
 
--- u + 1 is in the set and u is not
+-- a start: u + 1 is in the set and u is not
 abbrev Start : (ℕ → Bool) → ℕ → Type 0
 Start p u = (p (suc u) ≡ true) × (p u ≡ false)
 
@@ -51,7 +47,7 @@ or-right : (a b : Bool) → (a || b) ≡ false → b ≡ false
 or-right true b h = absurd (true≢false h)
 or-right false b h = h
 
--- a start of the halves is above a start of the set
+-- a start u of the halves comes from a start of the set, 2u + 1 or 2u + 2
 start-below : (p q : ℕ → Bool) → ((w : ℕ) → q w ≡ (p (2 * w) || p (2 * w + 1))) → (u : ℕ) → Start q u → (s : ℕ) × Start p s × (2 * u + 1 ≤ s) × (s ≤ 2 * u + 2)
 start-below p q h u s = go (p (2 * suc u)) refl
   where
@@ -132,8 +128,8 @@ leaf-there c (d ∷ ds) z m =
     (λ (k : List·Memᴰ z (map (λ d. d .0) ds)). rw (leaf-there c ds z k) (or-true (eqb (leaf (suc c) d / 1) (residueOf z (2 ^ suc c)))))
     (List·Memᴰ·cases-cons m)
 
-module _ (c : ℕ) (ds : List Digit) (gap : NoGap ds) (small : Each (λ d. mag (d .0) < 2 ^ c) ds) where
-  -- below a digit that is not the smallest the next leaf is there
+module _ (c : ℕ) (ds : List Digit) (gap : NoGap (map (λ d. d .0) ds)) (small : Each (λ d. mag (d .0) < 2 ^ c) ds) where
+  -- of a digit that is not the smallest, the leaf before its own is there
   not-smallest : (x y : ℤ) (v : ℕ) → List·Memᴰ x (map (λ d. d .0) ds) → List·Memᴰ y (map (λ d. d .0) ds) → x <ℤ y → residueOf y (2 ^ suc c) ≡ suc v → there (map (leaf (suc c)) ds) 0 v ≡ true
   not-smallest x y v mx my l e =
       rw (leaf-pred c v y (each-mem (λ z. mag z < 2 ^ c) y (map (λ d. d .0) ds) (each-map (λ z. mag z < 2 ^ c) (λ d. d .0) ds small) my) e) at (leaf-there c ds (predℤ y) (gap x y (predℤ y) mx my (before x y l) (pred-le y)))
@@ -212,13 +208,13 @@ module _ (b : ℕ) (ls : List ℕ) (h : Each (λ l. l < 2 ^ b) ls) where
   unfolding nodes below
   top-node m = rw (sub-self b, there-top b ls m h)
 
-  -- the pairs of all levels: the number of distinct leaves less 1, and the lone pairs
+  -- the pairs of all levels: the number of distinct leaves less 1, plus the lone pairs
   pub pairs-count : 1 ≤ length ls → switchesTo b ls b + 1 ≡ length (nodes b ls 0) + lonesTo b ls b
   pairs-count m = omega (arith, levels-count b ls b (le-refl b), top-node m)
 
 -- ---- no gap
 
--- the even node before an odd one that is there is missing
+-- an odd node is there, and the even one before it is not
 abbrev pub Lone : List ℕ → ℕ → ℕ → Type 0
 Lone ls i w = (there ls i (2 * w + 1) ≡ true) × (there ls i (2 * w) ≡ false)
 
@@ -267,33 +263,33 @@ module _ (slots step : ℕ) (giants : List Rot) where
   unfolding treeSwitches treeOf levelsOf
   tree-pairs = level-sum slots step b (leavesOf ds) b
 
-  -- whatever the digits: one less than the distinct leaves, and the odd nodes without their even one
+  -- whatever the digits: one less than the distinct leaves, plus the odd nodes whose even one is missing
   pub switches-count : 1 ≤ length giants → treeSwitches (treeOf slots step giants) + 1 ≡ length (nodes b (leavesOf ds) 0) + lonesTo b (leavesOf ds) b
   switches-count m = rw tree-pairs (pairs-count b (leavesOf ds) (leaves-bounded b ds) (rw (length-map ds (leaf b), length-map giants (digit slots step)) m))
 
-  one-starts : NoGap ds → (i : ℕ) → OneStart (there (leavesOf ds) i)
+  one-starts : NoGap (map (λ d. d .0) ds) → (i : ℕ) → OneStart (there (leavesOf ds) i)
   one-starts gap = by b refl
     where
       by : (x : ℕ) → bitsOf ds ≡ x → (i : ℕ) → OneStart (there (map (leaf x) ds) i)
       by zero e = absurd (omega (arith, bits-positive ds))
       by (suc c) e = nodes-one-start c ds gap (bits-small ds c e)
 
-  -- no gap: of each level at most one odd node has no even sibling
-  pub at-most-one-lone : NoGap ds → (i w x : ℕ) → Lone (leavesOf ds) i w → Lone (leavesOf ds) i x → w ≡ x
+  -- without a gap at most one odd node of each level has no even sibling
+  pub at-most-one-lone : NoGap (map (λ d. d .0) ds) → (i w x : ℕ) → Lone (leavesOf ds) i w → Lone (leavesOf ds) i x → w ≡ x
   at-most-one-lone gap i w x = one-lone (leavesOf ds) i (one-starts gap i) w x
 
-  pub at-most-one-pair : NoGap ds → (i : ℕ) → i < b → lone (pairsAt b (leavesOf ds) i) ≤ 1
+  pub at-most-one-pair : NoGap (map (λ d. d .0) ds) → (i : ℕ) → i < b → lone (pairsAt b (leavesOf ds) i) ≤ 1
   at-most-one-pair gap i l = one-lone-pair b (leavesOf ds) i l (one-starts gap i)
 
   -- and the pairs of all levels are at most (n - 1) + b
-  pub switches-most : NoGap ds → 0 < step → Each (Giant slots step) giants → Rising (map (λ g. g .0) giants) → 1 ≤ length giants → treeSwitches (treeOf slots step giants) ≤ length giants - 1 + b
+  pub switches-most : NoGap (map (λ d. d .0) ds) → 0 < step → Each (Giant slots step) giants → Rising (map (λ g. g .0) giants) → 1 ≤ length giants → treeSwitches (treeOf slots step giants) ≤ length giants - 1 + b
   switches-most gap s a r m =
       let rise : Rising (leavesOf ds) = rw (map-map (leaf b) (digit slots step) giants) (leaves-rise slots step giants s a r) in
       let n : length (leavesOf ds) ≡ length giants = length-map ds (leaf b) ∙ length-map giants (digit slots step) in
       omega (arith, switches-count m, first-nodes b (leavesOf ds) (leaves-bounded b ds) rise, lones-le b (leavesOf ds) b (le-refl b) (one-starts gap))
 
-  -- of no giants too
-  pub switches-few : NoGap ds → 0 < step → Each (Giant slots step) giants → Rising (map (λ g. g .0) giants) → treeSwitches (treeOf slots step giants) ≤ (length giants - 1) + b
+  -- for no giants too
+  pub switches-few : NoGap (map (λ d. d .0) ds) → 0 < step → Each (Giant slots step) giants → Rising (map (λ g. g .0) giants) → treeSwitches (treeOf slots step giants) ≤ (length giants - 1) + b
   switches-few gap s a r = by (eq-zero-or-pos (length giants))
     where
       by : (length giants ≡ 0) ⊎ (0 < length giants) → treeSwitches (treeOf slots step giants) ≤ (length giants - 1) + b

@@ -19,8 +19,8 @@ use Rattle.ring.specs.Laws.Slots.{mod-mul-mod, mul-mod-mod}
 use Rattle.ring.specs.Laws.Residues.{residue-pos, residue-sum, residue-mul}
 use Rattle.linear_transformation.specs.declared.digits.Rot.{Rot}
 use Rattle.linear_transformation.specs.declared.digits.Digit.{Digit}
-use Rattle.linear_transformation.specs.Digits.{rotOf, digit, bitsOf, leaf, levelDigit, levelRotation}
-use Rattle.linear_transformation.specs.Laws.Digits.{Giant, Shape, low, high, shape, minus, digit-turns}
+use Rattle.linear_transformation.specs.Digits.{rotOf, digit, bitsOf, leaf, levelDigit, levelRotation, Giant}
+use Rattle.linear_transformation.specs.Laws.Digits.{Shape, low, high, shape, minus, digit-turns}
 use Rattle.linear_transformation.specs.Laws.Bits.{bits-positive, bits-small}
 
 -- ---- the leaf of a digit in the range of b = c + 1
@@ -144,7 +144,7 @@ unfoldable pub rotationSum : ℕ → ℕ → ℕ → ℕ → ℕ → ℕ
 rotationSum slots step b l zero = 0
 rotationSum slots step b l (suc i) = addm slots (rotationSum slots step b l i) (mulm slots (l / 2 ^ i % 2) (levelRotation slots step b i .0))
 
--- (s + β·δ)·σ modulo m
+-- (s + β·δ)·t modulo m, as a sum of remainders
 spread : (m s t β δ : ℕ) → addm m (s * t % m) (mulm m β (δ * t % m)) ≡ (s + β % m * δ % m) % m * t % m
 unfolding addm mulm
 spread m s t β δ =
@@ -152,7 +152,7 @@ spread m s t β δ =
     simp (mod-mul-mod, mul-mod-mod, mod-add-mod, add-mod-mod) (ap (λ (x : ℕ). x % m) e)
 
 module _ (slots step b l : ℕ) (p : 0 < slots) where
-  -- it is what the bits make, times the step
+  -- it is what the bits make, times the step, modulo slots
   pub rotation-sum : (i : ℕ) → rotationSum slots step b l i ≡ residueOf (bitSum b l i *ℤ pos step) slots
   unfolding rotationSum bitSum levelRotation
   rotation-sum zero = sym (residue-pos (0 * step) slots p ∙ rw (zero-mul step) (zero-mod slots))

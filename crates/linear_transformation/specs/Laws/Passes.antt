@@ -1,27 +1,27 @@
--- Laws of the passes: what each makes and reads, their rotations, and how many switches they are.
+-- Laws of the passes: what each makes and reads, their rotations, how many switches they are, and how many words.
 -- Assumes nothing.
 use Prim.Native.Nat.{ℕ, zero, suc, _+_, _*_, _-_, _^_, _≤_, _<_}
 use mathlib.Core.Path.{_≡_, refl, sym, ap, _∙_}
 use mathlib.Core.Bool.{Bool, true, false, not, _&&_, true≢false}
 use mathlib.Core.Logic.{_⊎_, inl, inr}
 use mathlib.Core.List.{List, [], _∷_, _++_, map, append-nil, map-append}
-use native.Mathlib.Nat.{mul-lt-mul-of-pos-right}
+use native.Mathlib.Nat.{mul-comm, mul-lt-mul-of-pos-right}
 use native.Mathlib.Decide.{ℕ-discrete}
 use native.Mathlib.Omega.{arith}
 use borrow.Author.Tests.{eqb-true, eq-eqb, ne-eqb, lt-ltb, le-ltb}
 use lib.Dec.{eqb, ltb}
 use lib.ListN.{length, length-append, length-map}
 use lib.Pow.{pow-lt}
-use Rattle.ring.specs.Lists.{join, Each, Rising}
+use Rattle.ring.specs.Lists.{join, Each, Rising, among}
 use Rattle.ring.specs.Searches.{below, only}
 use Rattle.ring.specs.Vectors.{tabulate}
 use Rattle.ring.specs.Laws.Searches.{both, first, second, lt-or-ge}
-use Rattle.ring.specs.Laws.Lists.{each-append, each-map, rising-map, join-append}
+use Rattle.ring.specs.Laws.Lists.{each-append, each-map, rising-map, join-append, length-join}
 use Rattle.ring.specs.Laws.Below.{below-rising}
 use Rattle.ring.specs.Laws.Vectors.{tabulate-snoc}
-use Rattle.linear_transformation.specs.Plans.{among}
-use Rattle.linear_transformation.specs.Closures.{topBit, cleared, closure, hasTop, targets, Pass, move, pass, passOf, passes, passRotations, nonzeros}
-use Rattle.linear_transformation.specs.Laws.Members.{among-join, among-joined, only-yes, only-among, each-among, among-each}
+use Rattle.linear_transformation.specs.Closures.{topBit, cleared, closure, hasTop, targets, Pass, move, pass, passOf, passes, passRotations, nonzeros, nonEmpty}
+use Rattle.linear_transformation.specs.Listed.{passRecord, passSize, passWords, moveWords}
+use Rattle.ring.specs.Laws.Members.{among-join, among-joined, only-yes, only-among, each-among, among-each}
 use Rattle.linear_transformation.specs.Laws.Closures.{top-low, top-within, top-falls, Closed, closure-only, closure-low, closure-rising, closure-closed}
 
 -- ---- what a pass makes and reads
@@ -137,11 +137,6 @@ module _ (step : ℕ) (cs : List ℕ) where
 
 -- ---- the pass rotations
 
--- the list has an element
-abbrev pub nonEmpty : List ℕ → Bool
-nonEmpty [] = false
-nonEmpty (k ∷ ks) = true
-
 module _ (step : ℕ) (cs : List ℕ) where
   one-rotation : (i : ℕ) (ks : List ℕ) → map (λ p. p .rotation) (passOf step i ks) ≡ map (λ j. 2 ^ j * step) (only (nonEmpty ks) i)
   one-rotation i [] = refl
@@ -165,7 +160,7 @@ rotations-rising b step cs p =
 
 -- ---- the number of switches
 
--- one more top bit
+-- the top bits below b + 1: those below b, and b
 more : (c : Bool) (t b k : ℕ) → length (only (c && ltb t (suc b)) k) ≡ length (only (c && ltb t b) k) + length (only (c && eqb t b) k)
 more false t b k = refl
 more true t b k = by (lt-or-ge t b) (ℕ-discrete t b)
@@ -225,6 +220,24 @@ module _ (step : ℕ) (cs : List ℕ) where
   -- as many moves as cached babies that are not 0
   pub switches-are : (b : ℕ) → Each (λ k. k < 2 ^ b) cs → length (join (λ p. p .moves) (passes b step cs)) ≡ length (nonzeros cs)
   switches-are b l = moves-low b ∙ ap length (low-all b cs l)
+
+-- ---- the number of words
+
+-- `passSize` for each pass
+pub pass-words : (ps : List Pass) → length (passWords ps) ≡ passSize * length ps
+pass-words ps = length-join (λ p. passRecord (p .rotation) (length (p .moves))) passSize (λ p. refl) ps ∙ mul-comm (length ps) passSize
+
+-- two for each move
+pub move-words : (ps : List Pass) → length (moveWords ps) ≡ 2 * length (join (λ p. p .moves) ps)
+move-words [] = refl
+move-words (p ∷ ps) =
+    omega (
+      arith,
+      length-append (join (λ m. m .0 ∷ m .1 ∷ []) (p .moves)) (moveWords ps),
+      length-append (p .moves) (join (λ p. p .moves) ps),
+      length-join (λ m. m .0 ∷ m .1 ∷ []) 2 (λ m. refl) (p .moves),
+      move-words ps,
+    )
 
 -- ---- the passes over a closure
 

@@ -1,4 +1,4 @@
--- Laws of the plan: the index runs through the diagonals, and the pairs cut it into the giants' babies.
+-- Laws of the plan: the index has the baby of each diagonal, in order, and the pairs cut it into the giants' babies.
 -- Assumes nothing.
 use Prim.Native.Nat.{ℕ, zero, suc, _+_, _*_, _/_, _%_, _≤_, _<_}
 use mathlib.Core.Path.{_≡_, refl, sym, ap, _∙_}
@@ -12,8 +12,8 @@ use lib.Dec.{eqb}
 use lib.IntN.{ℤ}
 use lib.ListN.{length, take, drop, length-map, length-append}
 use lib.Seq.{take-at, drop-at}
-use Rattle.ring.specs.Lists.{join, Each, Rising}
-use Rattle.ring.specs.Residues.{residueOf}
+use Rattle.ring.specs.Lists.{join, Each, Rising, some, among}
+use Rattle.ring.specs.Residues.{residueOf, named, diagonalsOf}
 use Rattle.ring.specs.Searches.{only, below}
 use Rattle.ring.specs.Laws.Lists.{join-cong, length-join, each-then, each-all}
 use Rattle.ring.specs.Laws.Below.{below-low, below-passes, below-rising, below-ext}
@@ -21,8 +21,8 @@ use Rattle.ring.specs.Laws.Refusals.{inside}
 use Rattle.linear_transformation.specs.declared.LinearTransformationStrategy.{LinearTransformationStrategy}
 use Rattle.linear_transformation.specs.declared.LinearTransformationStrategy.the-variants.{Bsgs, BsgsPowersOfTwo, Direct}
 use Rattle.linear_transformation.specs.Strategies.{widthOutside}
-use Rattle.linear_transformation.specs.Plans.{some, among, named, diagonalsOf, widthOf, babyOf, giantOf, babies, giants, babiesAt, planIndex, cuts, planPairs, wordsWith}
-use Rattle.linear_transformation.specs.Laws.Members.{some-append, some-witness, right, among-head, among-rest, among-some, each-among, among-below, rising-same, rising-below, groups}
+use Rattle.linear_transformation.specs.Plans.{widthOf, babyOf, giantOf, babies, giants, babiesAt, planIndex, cuts, planPairs, wordsWith, Planned}
+use Rattle.ring.specs.Laws.Members.{some-append, some-witness, right, among-head, among-rest, among-some, each-among, among-below, rising-same, rising-below, groups}
 
 -- ---- the baby and the giant of a diagonal
 
@@ -51,17 +51,11 @@ module _ (width : ℕ) where
 
 -- ---- the index
 
--- the diagonals of a plan: rising, below slots; and a width that is accepted
-pub record Planned (slots width : ℕ) (ks : List ℕ) : Type 0 where
-  pub rises : Rising ks
-  pub low : Each (λ k. k < slots) ks
-  pub positive : 0 < width
-
 module _ {slots width : ℕ} {ks : List ℕ} (p : Planned slots width ks) where
   giants-low : Each (λ k. giantOf width k < slots) ks
   giants-low = each-then (λ k l. omega (arith, giant-le width k)) ks (p .low)
 
-  -- the index among babies the of the diagonals, in their order
+  -- the index is the babies of the diagonals, in their order
   pub index-babies : planIndex slots width ks ≡ map (babyOf width) ks
   unfolding planIndex babiesAt giants
   index-babies = groups (giantOf width) (giant-climbs width (p .positive)) (babyOf width) slots ks (p .rises) giants-low
@@ -78,7 +72,7 @@ module _ {slots width : ℕ} {ks : List ℕ} (p : Planned slots width ks) where
       by ih (yes e) = let q : g + babyOf width k ≡ k = omega (arith, giant-baby width k) in rw (eq-eqb _ _ e) (cc (q, ih))
       by ih (no n) = rw (ne-eqb _ _ n) ih
 
-  -- giant after giant, each with its babies, the index runs through the diagonals
+  -- giant after giant, the giant plus each of its babies are the diagonals, in order
   pub index-diagonals : join (λ g. map (λ b. g + b) (babiesAt width ks g)) (giants slots width ks) ≡ ks
   unfolding babiesAt giants
   index-diagonals =
@@ -177,7 +171,7 @@ module _ (width g : ℕ) where
   abbrev at : List ℕ → List ℕ
   at ks = join (λ k. only (eqb (giantOf width k) g) (babyOf width k)) ks
 
-  -- P of the babies of the diagonals that have giant g
+  -- what holds of the baby of each diagonal with giant g holds of each baby of g
   at-each : (P : ℕ → Type 0) (ks : List ℕ) → Each (λ k. giantOf width k ≡ g → P (babyOf width k)) ks → Each P (at ks)
   at-each P [] h = tt
   at-each P (k ∷ ks) h = by (at-each P ks (h .1)) (ℕ-discrete (giantOf width k) g)
@@ -215,7 +209,7 @@ module _ (width g : ℕ) where
           rw (eq-eqb (giantOf width k) g e) (t, ih)
       by ih (no n) = rw (ne-eqb (giantOf width k) g n) ih
 
-  -- giant and baby make a diagonal
+  -- the giant plus a baby of its own is a diagonal
   pub babiesAt-diagonals : (ks : List ℕ) → Each (λ b. among (g + b) ks ≡ true) (babiesAt width ks g)
   unfolding babiesAt
   babiesAt-diagonals ks = at-diagonals ks ks (λ k h. h)
@@ -230,7 +224,7 @@ module _ (width g : ℕ) where
           let t : some (λ k. eqb (giantOf width k) g) ks ≡ true = sym (ap (λ (b : Bool). b || some (λ k. eqb (giantOf width k) g) ks) (ne-eqb (giantOf width k) g n)) ∙ e in
           rw (ne-eqb (giantOf width k) g n) (ih t)
 
--- every giant among baby a
+-- every giant has a baby
 pub giants-full : (slots width : ℕ) (ks : List ℕ) → Each (λ g. 0 < length (babiesAt width ks g)) (giants slots width ks)
 unfolding giants babiesAt
 giants-full slots width ks =
@@ -252,7 +246,7 @@ cuts-cut f (g ∷ gs) front start e =
     let there : map (cut (front ++ (f g ++ join f gs))) (cuts f (start + length (f g)) gs) ≡ map f gs = ap (λ (t : List ℕ). map (cut t) (cuts f (start + length (f g)) gs)) (sym more) ∙ cuts-cut f gs (front ++ f g) (start + length (f g)) l in
     cc (here, there)
 
--- cut by the giants' pairs, the index falls into the giants' babies
+-- the giants' pairs cut the index into the giants' babies
 pub pairs-cut : (slots width : ℕ) (ks : List ℕ) → map (cut (planIndex slots width ks)) (planPairs slots width ks) ≡ map (babiesAt width ks) (giants slots width ks)
 unfolding planIndex planPairs
 pairs-cut slots width ks = cuts-cut (babiesAt width ks) (giants slots width ks) [] 0 refl
@@ -265,7 +259,7 @@ pub pairs-length : (slots width : ℕ) (ks : List ℕ) → length (planPairs slo
 unfolding planPairs
 pairs-length slots width ks = cuts-length (babiesAt width ks) 0 (giants slots width ks)
 
--- babies, three words a giant, and one a diagonal
+-- a word for each baby, three for each giant and one for each diagonal
 pub words-length : {slots width : ℕ} {ks : List ℕ} → Planned slots width ks → (bs : List ℕ) → length (wordsWith bs slots width ks) ≡ length bs + 3 * length (giants slots width ks) + length ks
 unfolding wordsWith
 words-length {slots} {width} {ks} p bs =
@@ -286,12 +280,12 @@ module _ (slots : ℕ) where
   unfolding diagonalsOf
   diagonals-named zs = below-passes (named slots zs) slots
 
-  -- only the residues that are named count
+  -- lists that name the same residues give the same diagonals
   pub diagonals-same : (xs ys : List ℤ) → ((k : ℕ) → k < slots → named slots xs k ≡ named slots ys k) → diagonalsOf slots xs ≡ diagonalsOf slots ys
   unfolding diagonalsOf
   diagonals-same xs ys same = below-ext (named slots xs) (named slots ys) slots same
 
-  -- not their order, nor repeats
+  -- so neither order nor repeats count
   pub diagonals-order : (xs ys : List ℤ) → diagonalsOf slots (xs ++ ys) ≡ diagonalsOf slots (ys ++ xs)
   unfolding named
   diagonals-order xs ys =

@@ -1,5 +1,5 @@
--- Laws of the walks that write a plan: a list of marked numbers up to a bound, and the giants, pairs and index of sorted
--- diagonals, a giant's run after the other.
+-- Laws of the walks that write a plan: the marked numbers up to a bound, and the giants and pairs of sorted diagonals, one
+-- giant's run of diagonals after the other.
 -- Assumes nothing.
 use Prim.Native.Nat.{ℕ, zero, suc, _+_, _-_, _*_, _/_, _≤_, _<_}
 use mathlib.Core.Path.{_≡_, refl, sym, ap, _∙_}
@@ -14,21 +14,21 @@ use lib.Dec.{eqb}
 use lib.IntN.{ℤ}
 use lib.ListN.{length, getD, take, drop, length-append, length-drop, take-append-drop}
 use lib.Seq.{take-add, getD-take, getD-drop, length-take-le}
-use Rattle.ring.specs.Lists.{join, Each, Rising}
-use Rattle.ring.specs.Residues.{residueOf}
+use Rattle.ring.specs.Lists.{join, Each, Rising, some, among}
+use Rattle.ring.specs.Residues.{residueOf, named}
 use Rattle.ring.specs.Searches.{only, below}
 use Rattle.ring.specs.Laws.Lists.{each-at, each-then, each-append, rising-snoc, join-append, length-join}
 use Rattle.ring.specs.Laws.Residues.{residue-lt}
 use Rattle.ring.specs.Laws.Searches.{by-false}
 use Rattle.ring.specs.Laws.Below.{below-no, below-le}
-use Rattle.linear_transformation.specs.Plans.{some, among, named, babyOf, giantOf, babies, giants, babiesAt, planIndex, cuts, planPairs, wordsWith}
-use Rattle.linear_transformation.specs.Laws.Members.{some-append, some-witness, one-of, left, right, among-head, among-left, among-right, among-split, among-some, each-among, among-each, among-below, below-among, rising-same, rising-below}
-use Rattle.linear_transformation.specs.Laws.Plans.{giant-times, giant-le, baby-le, Planned, index-length, pairs-length, giants-rise, babies-zero, babies-have}
-use Rattle.linear_transformation.specs.PlanSteps.{RunFrom, multiples}
+use Rattle.linear_transformation.specs.Plans.{babyOf, giantOf, babies, giants, babiesAt, planIndex, cuts, planPairs, wordsWith, Planned}
+use Rattle.ring.specs.Laws.Members.{some-append, some-witness, one-of, left, right, among-head, among-left, among-right, among-split, among-some, each-among, among-each, among-below, below-among, rising-same, rising-below}
+use Rattle.linear_transformation.specs.Laws.Plans.{giant-times, giant-le, baby-le, index-length, pairs-length, giants-rise, babies-zero, babies-have}
+use Rattle.linear_transformation.specs.Steps.Plans.{RunFrom, multiples}
 
 -- ---- marked numbers up to a bound
 
--- nothing is marked between two bounds
+-- where nothing is marked between two bounds, either will do
 between : (p : ℕ → Bool) (m d : ℕ) → ((k : ℕ) → m ≤ k → k < m + d → p k ≡ false) → below p (m + d) ≡ below p m
 between p m zero h = ap (below p) (add-zero m)
 between p m (suc d) h = ap (below p) (omega arith) ∙ below-no p (m + d) (h (m + d) (omega arith) (omega arith)) ∙ between p m d (λ k l u. h k l (omega arith))
@@ -42,7 +42,7 @@ pub none-named : (slots : ℕ) (zs : List ℤ) → 0 < slots → (k : ℕ) → s
 unfolding named
 none-named slots zs s k l = by-false (λ e. let x = some-witness (λ z. eqb (residueOf z slots) k) zs e in omega (arith, eqb-true (residueOf (x .0) slots) k (x .1), residue-lt (x .0) slots s))
 
--- an element of the list of which the test holds
+-- where an element of the list passes the test, one that does
 pub some-member : (t : ℕ → Bool) (xs : List ℕ) → some t xs ≡ true → (x : ℕ) × ((among x xs ≡ true) × (t x ≡ true))
 some-member t [] e = absurd (true≢false (sym e))
 some-member t (x ∷ xs) e =
@@ -51,7 +51,7 @@ some-member t (x ∷ xs) e =
 -- ---- any bound above the diagonals
 
 module _ {slots width : ℕ} {ks : List ℕ} (p : Planned slots width ks) (n : ℕ) (l : slots ≤ n) where
-  -- no diagonal has P where P makes it too large
+  -- no diagonal passes a test that only numbers from slots on pass
   out-of : (t : ℕ → Bool) → ((k : ℕ) → t k ≡ true → slots ≤ k) → some t ks ≡ false
   out-of t f = by-false (λ e. let x = some-member t ks e in omega (arith, f (x .0) (x .1 .1), each-among (λ k. k < slots) ks (p .low) (x .0) (x .1 .0)))
 
@@ -99,7 +99,7 @@ join-each f f' [] h = refl
 join-each f f' (g ∷ gs) h = cc (h .0, join-each f f' gs (h .1))
 
 module _ (width : ℕ) where
-  -- no diagonal of another giant
+  -- diagonals of other giants give no babies of g
   at-none : (ks : List ℕ) (g : ℕ) → Each (λ k. giantOf width k ≡ g → ⊥) ks → join (λ k. only (eqb (giantOf width k) g) (babyOf width k)) ks ≡ []
   at-none [] g h = refl
   at-none (k ∷ ks) g h = rw (ne-eqb (giantOf width k) g (h .0)) (at-none ks g (h .1))
@@ -203,12 +203,12 @@ rising-at (x ∷ xs) d r i zero l m = absurd (not-suc-le-zero l)
 rising-at (x ∷ xs) d r zero (suc j) l m = each-at (λ y. x < y) xs d (r .0) j (le-of-suc-le-suc m)
 rising-at (x ∷ xs) d r (suc i) (suc j) l m = rising-at xs d (r .1) i j (le-of-suc-le-suc l) (le-of-suc-le-suc m)
 
--- each element by its place
+-- what holds at each place holds of each element
 places-each : (P : ℕ → Type 0) (xs : List ℕ) (d : ℕ) → ((i : ℕ) → i < length xs → P (getD xs i d)) → Each P xs
 places-each P [] d f = tt
 places-each P (x ∷ xs) d f = (f 0 (omega arith), places-each P xs d (λ i l. f (suc i) (omega arith)))
 
--- those of a part
+-- likewise of a part of a list
 pub part-each : (P : ℕ → Type 0) (xs : List ℕ) (d at n : ℕ) → at + n ≤ length xs → ((u : ℕ) → at ≤ u → u < at + n → P (getD xs u d)) → Each P (take n (drop at xs))
 part-each P xs d at n l f =
     let e : length (take n (drop at xs)) ≡ n = length-take-le n (drop at xs) (rw length-drop (omega arith)) in
@@ -350,7 +350,7 @@ same-bool true b f g = sym (f refl)
 same-bool false true f g = g refl
 same-bool false false f g = refl
 
--- what is marked for the babies divided by a step
+-- the babies divided by a step: 0 / step, and the baby of each diagonal / step
 pub multiples-are : {slots width : ℕ} {ks : List ℕ} → Planned slots width ks → 0 < slots → (step k : ℕ) → (eqb (0 / step) k || some (λ j. eqb (babyOf width j / step) k) ks) ≡ among k (multiples slots width step ks)
 unfolding babies
 multiples-are {slots} {width} {ks} p s step k =

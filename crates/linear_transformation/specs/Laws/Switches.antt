@@ -5,41 +5,37 @@ use Prim.Native.Nat.{ℕ, zero, suc, _+_, _*_, _/_, _≤_, _<_, _∣_, zero-le}
 use mathlib.Core.Path.{_≡_, refl, sym, ap, _∙_}
 use mathlib.Core.Bool.{Bool, true, false, not, true≢false}
 use mathlib.Core.Logic.{⊎-elim}
-use mathlib.Core.List.{List, [], _∷_, _++_, map, map-map, map-id}
+use mathlib.Core.List.{List, [], _∷_, _++_, map, map-map, map-id, List·Memᴰ, List·Memᴰ·head, List·Memᴰ·tail, List·Memᴰ·not-nil, List·Memᴰ·cases-cons}
 use native.Mathlib.Nat.{dvd-trans, one-dvd, div-mul-cancel, zero-div, suc-ne-zero}
 use native.Mathlib.Decide.{ℕ-discrete}
 use native.Mathlib.Omega.{arith}
 use borrow.Author.Tests.{ne-eqb, eqb-true}
-use lib.Dec.{eqb}
-use lib.IntN.{pos}
+use lib.Dec.{eqb, le→leb}
+use lib.IntN.{pos, natAbs}
 use lib.ListN.{length, length-map}
-use Rattle.ring.specs.Lists.{Each, Rising}
+use Rattle.ring.specs.Lists.{Each, Rising, among}
 use Rattle.ring.specs.Divisors.{gcdOf, gcdAll}
 use Rattle.ring.specs.Searches.{orElse, only}
 use Rattle.ring.specs.Laws.Divisors.{is-gcd}
 use Rattle.ring.specs.Laws.Lists.{each-then, each-both, each-map}
 use Rattle.linear_transformation.specs.declared.digits.Rot.{Rot}
 use Rattle.linear_transformation.specs.declared.LinearTransformationStrategy.the-variants.{Bsgs, BsgsPowersOfTwo}
-use Rattle.linear_transformation.specs.Plans.{among, babies, giants}
+use Rattle.linear_transformation.specs.Plans.{babies, giants, Planned}
 use Rattle.linear_transformation.specs.Closures.{cleared, closure, babyClosure, nonzeros}
-use Rattle.linear_transformation.specs.Trees.{digitsOf, treeOf, treeSwitches}
-use Rattle.linear_transformation.specs.Schedules.{babyStep, babyMultiples, planBabies, planTree, giantSwitches, planSwitches}
-use Rattle.linear_transformation.specs.Laws.Members.{one-of, right, among-head, among-rest, among-join, among-joined, only-yes, only-among, each-among, among-each}
-use Rattle.linear_transformation.specs.Laws.Plans.{Planned, babies-rise, babies-below, babies-zero, giants-rise, giants-below, giants-multiple}
+use Rattle.linear_transformation.specs.Trees.{treeOf, treeSwitches}
+use Rattle.linear_transformation.specs.Schedules.{babyStep, babyMultiples, planBabies, planRots, giantDigits, planTree, giantSwitches, planSwitches, NoGap, NoGaps}
+use Rattle.ring.specs.Laws.Members.{one-of, right, among-head, among-rest, among-join, among-joined, only-yes, only-among, each-among, among-each}
+use Rattle.linear_transformation.specs.Laws.Plans.{babies-rise, babies-below, babies-zero, giants-rise, giants-below, giants-multiple}
 use Rattle.linear_transformation.specs.Laws.Closures.{positive, cleared-lower, closure-least, babies-rising}
-use Rattle.linear_transformation.specs.Laws.Digits.{Giant}
-use Rattle.linear_transformation.specs.Rotations.{listTree}
+use Rattle.linear_transformation.specs.Digits.{Giant}
+use Rattle.linear_transformation.specs.Listed.{listTree}
 use Rattle.linear_transformation.specs.Laws.Trees.{rots-list}
-use Rattle.linear_transformation.specs.Laws.Gaps.{NoGap, switches-few}
+use Rattle.linear_transformation.specs.Laws.Gaps.{switches-few}
 
 -- a plan's tree is that of its giants, listed
 pub plan-tree : (slots width : ℕ) (ks : List ℕ) → planTree slots width ks ≡ listTree slots width (map pos (giants slots width ks))
 unfolding planTree
 plan-tree slots width ks = ap (treeOf slots width) (sym (rots-list slots (giants slots width ks) (giants-below slots width ks)))
-
--- every whole number between two of the numbers is one of them
-abbrev pub NoGapAmong : List ℕ → Type 0
-NoGapAmong ks = (x y z : ℕ) → among x ks ≡ true → among y ks ≡ true → x ≤ z → z ≤ y → among z ks ≡ true
 
 -- ---- rising lists
 
@@ -99,9 +95,22 @@ among-map : (f : ℕ → ℕ) (xs : List ℕ) (x : ℕ) → among x xs ≡ true 
 among-map f [] x h = absurd (true≢false (sym h))
 among-map f (y ∷ ys) x h = ⊎-elim (λ a. let e : y ≡ x = eqb-true y x a in rw e (among-head (f x) (map f ys))) (λ a. right (eqb (f y) (f x)) (among-map f ys x a)) (one-of (eqb y x) _ h)
 
+-- ---- natural numbers without a gap
+
+mem-pos : (k : ℕ) (xs : List ℕ) → among k xs ≡ true → List·Memᴰ (pos k) (map pos xs)
+mem-pos k [] h = absurd (true≢false (sym h))
+mem-pos k (x ∷ xs) h = ⊎-elim (λ a. List·Memᴰ·head (ap pos (sym (eqb-true x k a)))) (λ a. List·Memᴰ·tail (mem-pos k xs a)) (one-of (eqb x k) _ h)
+
+pos-mem : (k : ℕ) (xs : List ℕ) → List·Memᴰ (pos k) (map pos xs) → among k xs ≡ true
+pos-mem k [] m = absurd (List·Memᴰ·not-nil m)
+pos-mem k (x ∷ xs) m = ⊎-elim (λ (e : pos k ≡ pos x). let d : k ≡ x = ap natAbs e in rw d (among-head x xs)) (λ t. right (eqb x k) (pos-mem k xs t)) (List·Memᴰ·cases-cons m)
+
+between : (ks : List ℕ) → NoGap (map pos ks) → (x y z : ℕ) → among x ks ≡ true → among y ks ≡ true → x ≤ z → z ≤ y → among z ks ≡ true
+between ks gap x y z a b l h = pos-mem z ks (gap (pos x) (pos y) (pos z) (mem-pos x ks a) (mem-pos y ks b) (record { le = le→leb x z l }) (record { le = le→leb z y h }))
+
 -- ---- the baby step
 
--- the greatest common divisor of a list divides each of it
+-- the greatest common divisor of a list divides each of its numbers
 pub gcdAll-divides : (xs : List ℕ) → Each (λ x. gcdAll xs ∣ x) xs
 gcdAll-divides [] = tt
 gcdAll-divides (x ∷ xs) =
@@ -127,12 +136,12 @@ module _ (slots width : ℕ) (ks : List ℕ) where
   step-divides = orElse-divides (gcdAll (babies slots width ks)) (babies slots width ks) (gcdAll-divides (babies slots width ks))
 
   -- with no gap the closure adds nothing
-  closed : NoGapAmong (babyMultiples slots width ks) → Each (λ k. among k (babyMultiples slots width ks) ≡ true) (closure 16 (babyMultiples slots width ks))
+  closed : NoGap (map pos (babyMultiples slots width ks)) → Each (λ k. among k (babyMultiples slots width ks) ≡ true) (closure 16 (babyMultiples slots width ks))
   unfolding babyMultiples
   closed gap =
       let ms = babyMultiples slots width ks in
       closure-least 16 ms (λ k. among k ms ≡ true)
-      (λ k h q. gap 0 k (cleared k) (zero-there k h) h zero-le (omega (arith, cleared-lower k (positive k q))))
+      (λ k h q. between ms gap 0 k (cleared k) (zero-there k h) h zero-le (omega (arith, cleared-lower k (positive k q))))
       (among-each (λ k. among k ms ≡ true) ms (λ k h. h))
     where
       zero-there : (k : ℕ) → among k (map (λ b. b / babyStep slots width ks) (babies slots width ks)) ≡ true → among 0 (map (λ b. b / babyStep slots width ks) (babies slots width ks)) ≡ true
@@ -142,8 +151,8 @@ module _ (slots width : ℕ) (ks : List ℕ) where
           let z : 0 / babyStep slots width ks ≡ 0 = zero-div (babyStep slots width ks) in
           rw z at (among-map (λ b. b / babyStep slots width ks) (babies slots width ks) 0 (babies-zero slots width ks (omega arith)))
 
-  -- so the plan's babies are babies
-  babies-within : NoGapAmong (babyMultiples slots width ks) → (k : ℕ) → among k (babyClosure 16 (babyStep slots width ks) (babyMultiples slots width ks)) ≡ true → among k (babies slots width ks) ≡ true
+  -- so the closure has no babies but those before it
+  babies-within : NoGap (map pos (babyMultiples slots width ks)) → (k : ℕ) → among k (babyClosure 16 (babyStep slots width ks) (babyMultiples slots width ks)) ≡ true → among k (babies slots width ks) ≡ true
   unfolding babyMultiples
   babies-within gap k h =
       let s = babyStep slots width ks in
@@ -154,7 +163,7 @@ module _ (slots width : ℕ) (ks : List ℕ) where
       let e : b .0 ≡ k = sym (div-mul-cancel s d) ∙ ap (λ (x : ℕ). x * s) (b .1 .1) ∙ a .1 .1 in
       rw (← e) (b .1 .0)
 
-  babies-fewer : NoGapAmong (babyMultiples slots width ks) → length (nonzeros (planBabies slots (BsgsPowersOfTwo width) ks)) ≤ length (nonzeros (planBabies slots (Bsgs width) ks))
+  babies-fewer : NoGap (map pos (babyMultiples slots width ks)) → length (nonzeros (planBabies slots (BsgsPowersOfTwo width) ks)) ≤ length (nonzeros (planBabies slots (Bsgs width) ks))
   unfolding planBabies
   babies-fewer gap =
       let cs = babyClosure 16 (babyStep slots width ks) (babyMultiples slots width ks) in
@@ -166,7 +175,7 @@ module _ (slots width : ℕ) (ks : List ℕ) where
 
 module _ {slots width : ℕ} {ks : List ℕ} (p : Planned slots width ks) where
   abbrev rots : List Rot
-  rots = map (λ g. record { 0 = g }) (giants slots width ks)
+  rots = planRots slots width ks
 
   are-giants : Each (Giant slots width) rots
   are-giants = each-map (Giant slots width) (λ g. record { 0 = g }) (giants slots width ks) (each-both (λ g l m. record { reduced = l; multiple = m }) (giants slots width ks) (giants-below slots width ks) (giants-multiple slots width ks))
@@ -174,13 +183,13 @@ module _ {slots width : ℕ} {ks : List ℕ} (p : Planned slots width ks) where
   giants-rising : Rising (map (λ (g : Rot). g .0) rots)
   giants-rising = rw (map-map (λ (g : Rot). g .0) (λ g. record { 0 = g }) (giants slots width ks) ∙ map-id (giants slots width ks)) (giants-rise slots width ks)
 
-  giants-fewer : NoGap (digitsOf slots width rots) → treeSwitches (planTree slots width ks) ≤ length (nonzeros (giants slots width ks)) + planTree slots width ks .bits
+  giants-fewer : NoGap (map (λ d. d .0) (giantDigits slots width ks)) → treeSwitches (planTree slots width ks) ≤ length (nonzeros (giants slots width ks)) + planTree slots width ks .bits
   unfolding planTree treeOf
   giants-fewer gap =
       let n : length rots ≡ length (giants slots width ks) = length-map (giants slots width ks) (λ g. record { 0 = g }) in
       omega (arith, switches-few slots width rots gap (p .positive) are-giants giants-rising, one-zero (giants slots width ks) (giants-rise slots width ks))
 
-  -- no gap: at most b switches more
-  pub switches-bound : NoGapAmong (babyMultiples slots width ks) → NoGap (digitsOf slots width rots) → planSwitches slots (BsgsPowersOfTwo width) ks ≤ planSwitches slots (Bsgs width) ks + planTree slots width ks .bits
+  -- without a gap at most b switches more
+  pub switches-bound : NoGaps slots width ks → planSwitches slots (BsgsPowersOfTwo width) ks ≤ planSwitches slots (Bsgs width) ks + planTree slots width ks .bits
   unfolding planSwitches giantSwitches
-  switches-bound gap none = omega (arith, babies-fewer slots width ks gap, giants-fewer none)
+  switches-bound gaps = omega (arith, babies-fewer slots width ks (gaps .multiples), giants-fewer (gaps .digits))

@@ -1,4 +1,4 @@
--- Laws of tables of marks: `close` makes the closure's, and what a bounded table lists.
+-- Laws of tables of marks: `close` makes the marks of the closure, and what a bounded table lists.
 -- Assumes nothing.
 use Prim.Native.Nat.{ℕ, zero, suc, _+_, _-_, _≤_, _<_}
 use mathlib.Core.Path.{_≡_, refl, sym, ap, _∙_}
@@ -6,15 +6,14 @@ use mathlib.Core.Bool.{Bool, true, false, true≢false}
 use mathlib.Core.List.{List, append-nil}
 use native.Mathlib.Nat.{zero-add, le-add-left}
 use native.Mathlib.Omega.{arith}
-use Rattle.ring.specs.Lists.{Each}
+use Rattle.ring.specs.Lists.{Each, among}
 use Rattle.ring.specs.Searches.{below}
 use Rattle.ring.specs.Marks.{marks}
 use Rattle.ring.specs.Laws.Searches.{by-false}
 use Rattle.ring.specs.Laws.Below.{below-ext}
-use Rattle.linear_transformation.specs.Plans.{among}
 use Rattle.linear_transformation.specs.Closures.{closure}
-use Rattle.linear_transformation.specs.BabySteps.{Bounded, Closes}
-use Rattle.linear_transformation.specs.Laws.Members.{each-among, among-each, rising-below}
+use Rattle.linear_transformation.specs.Steps.Babies.{Bounded, Closes}
+use Rattle.ring.specs.Laws.Members.{each-among, among-each, rising-below}
 use Rattle.linear_transformation.specs.Laws.Closures.{closure-listed, closure-closed, closure-least, closure-low, closure-rising}
 
 -- two tests that say yes of the same
@@ -35,7 +34,7 @@ closes-closure {n} {old} {new} c ks low same k =
     all : Each (λ m. marks new m ≡ true) (closure 16 ks)
     all = closure-least 16 ks (λ m. marks new m ≡ true) (c .clears) (among-each (λ m. marks new m ≡ true) ks (λ m a. c .grows m (same m ∙ a)))
 
--- no number from n on passes the test
+-- where no number from n on passes the test, none is listed
 pub below-beyond : (p : ℕ → Bool) (n d : ℕ) → ((k : ℕ) → n ≤ k → p k ≡ false) → below p (d + n) ≡ below p n
 unfolding below
 below-beyond p n zero h = ap (below p) (zero-add n)

@@ -1,4 +1,4 @@
--- Laws of the tree's nodes: each level has the halves of the one before it, and the pairs of a level by its odd nodes.
+-- Laws of the tree's nodes: each level has the halves of the one before it, and each odd node of a level makes a pair.
 -- Assumes nothing.
 use Prim.Native.Nat.{ℕ, suc, _+_, _*_, _-_, _/_, _%_, _^_, _≤_, _<_}
 use mathlib.Core.Path.{_≡_, refl, sym, ap, ap₂, _∙_}
@@ -12,16 +12,15 @@ use native.Mathlib.Omega.{arith}
 use borrow.Author.Tests.{eq-eqb, ne-eqb, eqb-true}
 use lib.Dec.{eqb}
 use lib.IntN.{pos}
-use Rattle.ring.specs.Lists.{join, Each}
+use Rattle.ring.specs.Lists.{join, Each, some, among}
 use Rattle.ring.specs.Searches.{below, only}
 use Rattle.ring.specs.Laws.Lists.{join-append}
 use Rattle.ring.specs.Laws.Below.{below-ext}
 use Rattle.ring.specs.Laws.Searches.{by-false, lt-or-ge}
 use Rattle.ring.specs.Laws.Refusals.{either}
 use Rattle.ring.specs.Laws.Residues.{residue-pos}
-use Rattle.linear_transformation.specs.Plans.{some, among}
 use Rattle.linear_transformation.specs.Digits.{rotOf}
-use Rattle.linear_transformation.specs.Laws.Members.{one-of, right, among-head, among-some, among-below, below-among}
+use Rattle.ring.specs.Laws.Members.{one-of, right, among-head, among-some, among-below, below-among}
 use Rattle.linear_transformation.specs.Trees.{there, nodes, Pair, pairsAt}
 
 -- ---- a node is there if one of its children is
@@ -93,7 +92,7 @@ odds-more p n =
       append-nil,
     )
 
--- a pair with the test of the number before it
+-- the pair of an odd u: whether u - 1 passes the test
 abbrev pub withEven : (ℕ → Bool) → ℕ → Pair
 withEven p u = record { odd = u; even-there = p (u - 1) }
 

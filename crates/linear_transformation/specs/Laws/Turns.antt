@@ -1,4 +1,4 @@
--- Laws of what turns: the babies and giants that are not 0, and the tree over a plan's giants.
+-- Laws of what turns: the babies and giants that are not 0.
 -- Assumes nothing.
 use Prim.Native.Nat.{ℕ, zero, suc, _-_, _*_, _≤_, _<_}
 use mathlib.Core.Path.{_≡_, refl, sym, ap, _∙_}
@@ -11,14 +11,14 @@ use borrow.Author.Tests.{ne-eqb}
 use lib.Dec.{eqb}
 use lib.ListN.{length, getD, take, drop, length-drop, take-append-drop}
 use lib.Seq.{take-all}
-use Rattle.ring.specs.Lists.{Each, Rising}
+use Rattle.ring.specs.Lists.{Each, Rising, some}
 use Rattle.ring.specs.Searches.{only, below}
 use Rattle.ring.specs.Laws.Lists.{each-then, join-append}
-use Rattle.linear_transformation.specs.Plans.{some, babyOf, giantOf, giants}
+use Rattle.linear_transformation.specs.Plans.{babyOf, giantOf, giants, Planned}
 use Rattle.linear_transformation.specs.Closures.{nonzeros}
-use Rattle.linear_transformation.specs.PlanSteps.{RunEnd}
-use Rattle.linear_transformation.specs.Laws.Members.{some-append}
-use Rattle.linear_transformation.specs.Laws.Plans.{Planned, giant-baby, baby-lt}
+use Rattle.linear_transformation.specs.Steps.Plans.{RunEnd}
+use Rattle.ring.specs.Laws.Members.{some-append}
+use Rattle.linear_transformation.specs.Laws.Plans.{giant-baby, baby-lt}
 use Rattle.linear_transformation.specs.Laws.Runs.{planned-take, rising-at, part-each}
 
 -- ---- numbers that are not 0
@@ -29,7 +29,7 @@ nonzero-only false c zero z s = rw (z refl)
 nonzero-only true c (suc n) z s = rw (← s (omega arith), ne-eqb (suc n) 0 (suc-ne-zero n))
 nonzero-only false c (suc n) z s = rw (← s (omega arith))
 
--- of the numbers that pass a test, those that are not 0
+-- those of the numbers that pass a test: where q is p without 0, the numbers that pass q
 pub nonzeros-below : (p q : ℕ → Bool) (n : ℕ) → q 0 ≡ false → ((k : ℕ) → 1 ≤ k → p k ≡ q k) → nonzeros (below p n) ≡ below q n
 unfolding below
 nonzeros-below p q zero z s = refl
@@ -37,7 +37,7 @@ nonzeros-below p q (suc n) z s =
     join-append (λ k. only (not (eqb k 0)) k) (below p n) (only (p n) n)
     ∙ rw (nonzeros-below p q n z s, nonzero-only (p n) (q n) n (λ e. rw e z) (λ l. s n l))
 
--- as multiples
+-- those of multiples
 pub nonzeros-times : (step : ℕ) (ks : List ℕ) → 1 ≤ step → nonzeros (map (λ k. k * step) ks) ≡ map (λ k. k * step) (nonzeros ks)
 nonzeros-times step [] l = refl
 nonzeros-times step (zero ∷ ks) l = rw (zero-mul step) (nonzeros-times step ks l)
@@ -91,7 +91,7 @@ module _ {slots width : ℕ} {ds : List ℕ} (p : Planned slots width ds) {r : �
   pub parted : ds ≡ take r ds ++ rest r ds
   parted = sym (take-append-drop r ds) ∙ ap (λ (t : List ℕ). take r ds ++ t) (sym (take-all (length ds - r) (drop r ds) (rw length-drop (omega arith))))
 
-  -- are those of the diagonals from the width on
+  -- they are the giants of the diagonals from the width on
   pub giants-turning : nonzeros (giants slots width ds) ≡ giants slots width (rest r ds)
   unfolding giants
   giants-turning =

@@ -1,5 +1,6 @@
 -- Laws of the best width: the smallest gap, the candidates, and the last of the cheapest.
 -- Assumes nothing.
+use Rattle.linear_transformation.specs.Steps.Widths.{Narrowest}
 use Prim.Native.Nat.{ℕ, zero, suc, _+_, _-_, _≤_, _<_, _∣_}
 use mathlib.Core.Path.{_≡_, refl}
 use mathlib.Core.Bool.{Bool, true, false, not, _&&_, _||_, Bool-discrete}
@@ -12,21 +13,16 @@ use borrow.Author.Tests.{eqb-true, lt-ltb, ltb-true, le-leb, leb-true}
 use lib.Dec.{eqb, ltb, leb}
 use lib.ListN.{length}
 use Rattle.ring.specs.Divisors.{divides}
-use Rattle.ring.specs.Lists.{Each, Rising}
+use Rattle.ring.specs.Lists.{Each, Rising, some, among}
 use Rattle.ring.specs.Searches.{greatest, every}
 use Rattle.ring.specs.Laws.Lists.{each-then}
 use Rattle.ring.specs.Laws.Divisors.{divides-yes, divides-dvd}
 use Rattle.ring.specs.Laws.Searches.{by-false, both, first, second, lt-or-ge, Found, greatest-is, least-is, least-found, every-at, every-all}
-use Rattle.linear_transformation.specs.Plans.{some, among, babyOf}
+use Rattle.linear_transformation.specs.Plans.{babyOf, Planned, Distinct}
 use Rattle.linear_transformation.specs.Widths.{gaps, smallestGap, ownBabies, cost, candidate, cheapest, bestWidth}
-use Rattle.linear_transformation.specs.Laws.Members.{among-head, each-among}
-use Rattle.linear_transformation.specs.Laws.Plans.{Planned, baby-le}
+use Rattle.ring.specs.Laws.Members.{among-head, each-among}
+use Rattle.linear_transformation.specs.Laws.Plans.{baby-le}
 use Rattle.linear_transformation.specs.Laws.Runs.{below-between, some-member, giants-bound}
-
--- diagonals: rising, below slots
-pub record Distinct (slots : ℕ) (ds : List ℕ) : Type 0 where
-  pub rises : Rising ds
-  pub low : Each (λ k. k < slots) ds
 
 pub distinct-planned : {slots : ℕ} {ds : List ℕ} → Distinct slots ds → (width : ℕ) → 0 < width → Planned slots width ds
 distinct-planned d width w = record { rises = d .rises; low = d .low; positive = w }
@@ -36,7 +32,7 @@ distinct-bound {ds} d l = record { rises = d .rises; low = each-then (λ k h. om
 
 -- ---- the last of the numbers where a function is least
 
--- w is the last of the numbers below n with p of which f is least
+-- w is the last of those numbers below n with p where f is least
 pub record LastLeast (p : ℕ → Bool) (f : ℕ → ℕ) (n w : ℕ) : Type 0 where
   pub within : w < n
   pub is : p w ≡ true
@@ -74,7 +70,7 @@ module _ {p : ℕ → Bool} {f : ℕ → ℕ} where
           last = λ v k u q. ⊎-elim (λ a. s .last v k a q) (λ a. let i : v ≡ n = omega arith in rw i l) (lt-or-ge v n);
         }
 
-    -- numbers without p
+    -- numbers without p change nothing
     pub last-skip : (m : ℕ) → n ≤ m → ((v : ℕ) → n ≤ v → v < m → p v ≡ true → ⊥) → LastLeast p f m w
     last-skip m l none =
         record {
@@ -103,7 +99,7 @@ module _ (p : ℕ → Bool) (f : ℕ → ℕ) where
   no-dearer w v true e h = rw (e, le-leb (f w) (f v) (h refl))
   no-dearer w v false e h = rw e
 
-  -- the search for it
+  -- the search finds it
   pub last-is : (n w : ℕ) → ((v : ℕ) → p v ≡ true → v < n) → LastLeast p f n w → greatest (λ w. p w && every (λ v. not (p v) || leb (f w) (f v)) n) n ≡ w
   last-is n w low s =
       greatest-is (λ w. p w && every (λ v. not (p v) || leb (f w) (f v)) n) n w (omega (arith, s .within))
@@ -115,12 +111,6 @@ module _ (p : ℕ → Bool) (f : ℕ → ℕ) where
       omega (arith, leb-true (f k) (f w) cheap, s .last k a (low k pk) pk))
 
 -- ---- the smallest gap
-
--- g is a gap, and no gap is smaller
-pub record Narrowest (ds : List ℕ) (g : ℕ) : Type 0 where
-  pub positive : 1 ≤ g
-  pub there : among g (gaps ds) ≡ true
-  pub smallest : (h : ℕ) → among h (gaps ds) ≡ true → g ≤ h
 
 pub gaps-positive : (ds : List ℕ) → Rising ds → Each (λ g. 1 ≤ g) (gaps ds)
 gaps-positive [] r = tt
@@ -209,7 +199,7 @@ best-few slots (k ∷ j ∷ ks) l = omega arith
 abbrev pub Best : ℕ → List ℕ → ℕ → Type 0
 Best slots ds w = LastLeast (candidate slots ds) (cost slots ds) slots w
 
--- there is one such width
+-- no other width is that
 pub best-is : (slots : ℕ) (ds : List ℕ) (w : ℕ) → 2 ≤ length ds → Best slots ds w → bestWidth slots ds ≡ w
 unfolding bestWidth cheapest
 best-is slots [] w l s = omega arith

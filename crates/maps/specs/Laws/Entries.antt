@@ -4,12 +4,7 @@ use Prim.Native.Nat.{ℕ, suc, _+_, _*_, _/_, _%_, _≤_, _<_, _∣_}
 use mathlib.Core.Path.{_≡_, sym, ap, _∙_}
 use native.Mathlib.Nat.{mod-lt, mod-eq-of-lt, div-eq-of-lt, mul-add-div-right, mul-add-mod-self-right, mul-le-mul-right, suc-mul, add-mul, mul-assoc, div-mul-cancel, div-add-mod', div-div-eq-div-mul, div-lt-iff-lt-mul, one-le-mul, zero-mul}
 use native.Mathlib.Omega.{arith}
-use Rattle.maps.specs.Entries.{Entry, place, entryOf, slotOf}
-
--- an entry of a d by d matrix
-pub record InMatrix (d : ℕ) (e : Entry) : Type 0 where
-  pub row-low : e .row < d
-  pub col-low : e .col < d
+use Rattle.maps.specs.Entries.{Entry, InMatrix, place, entryOf, slotOf}
 
 module _ (d : ℕ) (e : Entry) (h : InMatrix d e) where
   pub place-low : place d e < d * d
@@ -69,6 +64,9 @@ module _ (d t : ℕ) (h : 1 ≤ d) where
       ∙ ap (λ (x : ℕ). (x * d + t / d % d) * d + t % d) (sym (div-div-eq-div-mul t d d))
       ∙ ap (λ (x : ℕ). x * d + t % d) (div-add-mod' (t / d) d)
       ∙ div-add-mod' t d
+
+  pub place-is : t < d * d → place d (entryOf d t) ≡ t
+  place-is l = omega (arith, slot-is, ap (λ (s : ℕ). s * (d * d)) (div-eq-of-lt l), zero-mul (d * d))
 
   pub slot-inside : (slots : ℕ) → d * d ∣ slots → t < slots → slotOf d t < slots / (d * d)
   slot-inside slots v l =

@@ -8,7 +8,7 @@ use native.Mathlib.Nat.{zero-mul, suc-mul, mod-lt, mod-eq-of-lt, mod-add-div', a
 use native.Mathlib.Numerals.{add-one}
 use native.Mathlib.Omega.{arith}
 use lib.ListN.{length, getD, take, drop, length-append, length-drop, length-map, take-append-drop}
-use lib.Seq.{drop-at, drop-drop, length-take-le, getD-take, getD-drop, set-getD}
+use lib.Seq.{drop-at, drop-drop, length-take-le, getD-take, getD-drop}
 use Rattle.ring.specs.Lists.{Each}
 use Rattle.ring.specs.Vectors.{tabulate, inFront, filled}
 use Rattle.ring.specs.Answers.{answered}
@@ -17,20 +17,20 @@ use Rattle.ring.specs.Laws.Lists.{each-then, tabulate-each}
 use Rattle.ring.specs.Laws.Vectors.{length-tabulate, map-tabulate, tabulate-cong, length-inFront, inFront-inFront, length-filled, filled-same}
 use Rattle.ring.specs.Laws.Refusals.{not-outside}
 use Rattle.ring.specs.Laws.Answers.{no-refused}
-use Rattle.diagonals.specs.Maps.{Diagonal, offsetAt, lengthAt, startAt, diagonalAt, view, WellFormed}
+use Rattle.diagonals.specs.Maps.{Diagonal, pairRoom, offsetAt, lengthAt, startAt, diagonalAt, view, WellFormed, pairWords, valueWords, FormedMap}
 use Rattle.diagonals.specs.Products.{cell}
-use Rattle.diagonals.specs.Setting.{pairWords, valueWords}
 use Rattle.diagonals.specs.Shrinking.{commonPeriod, atPeriod, shrunk}
 use Rattle.diagonals.specs.Calls.{mapRefusal, MapWritten}
-use Rattle.diagonals.specs.Laws.Maps.{each-view, length-values}
-use Rattle.diagonals.specs.Laws.Words.{FormedMap, formed-view, means-formed, words-formed, view-inFront, length-pairWords}
+use Rattle.diagonals.specs.Laws.Maps.{each-view, values-inside}
+use Rattle.diagonals.specs.Laws.Words.{formed-view, means-formed, words-formed, view-inFront}
+use Rattle.diagonals.specs.Laws.Pairs.{room-mono, length-pairWords, put-same}
 use Rattle.diagonals.specs.Laws.Writing.{length-valueWords}
 use Rattle.diagonals.specs.Laws.Matrices.{formed-some}
 use Rattle.diagonals.specs.Laws.Shrinking.{common-pos, common-divides}
 use Rattle.maps.specs.Calls.{freeBehind, ShrunkWritten}
-use Rattle.maps.specs.RowSteps.{rows, rowPairs}
-use Rattle.maps.specs.ShrinkSteps.{Even, movedFrom, movedAt, Narrowing, Shrank}
-use Rattle.maps.specs.Laws.Rows.{pairs-rows, values-rows, Pairing, pairing-none, pairing-kept, pairing-done}
+use Rattle.maps.specs.Steps.Rows.{rows, rowPairs}
+use Rattle.maps.specs.Steps.Shrinking.{Even, movedFrom, movedAt, Narrowing, Shrank}
+use Rattle.maps.specs.Laws.Rows.{pairs-rows, values-rows, Pairing, pairing-none, pairing-more, pairing-done}
 
 -- ---- where words move from
 
@@ -89,7 +89,7 @@ module _ {slots period count : ℕ} {pairs values : List ℕ} (e : Even slots pe
   somes = formed-some slots ds (formed-view slots count pairs values (e .formed))
 
   lengths : Each (λ d. length (d .values) ≡ period) ds
-  lengths = each-view (λ d. length (d .values) ≡ period) count pairs values (λ i l. length-values i (e .formed) l ∙ e .stored i l)
+  lengths = each-view (λ d. length (d .values) ≡ period) count pairs values (λ i l. e .formed .whole i l ∙ e .stored i l)
 
   common-narrow : commonPeriod ds ≤ period
   common-narrow =
@@ -106,7 +106,7 @@ module _ {slots period count : ℕ} {pairs values : List ℕ} (e : Even slots pe
         record {
           some = rw ep (common-pos ds somes);
           narrow = rw ep common-narrow;
-          inside = rw (← (starts count (le-refl count))) (e .formed .values-inside);
+          inside = rw (← (starts count (le-refl count))) (values-inside (e .formed));
         }
 
     pub even-small : p ≤ 65536
@@ -127,7 +127,7 @@ module _ {slots period count : ℕ} {pairs values : List ℕ} (e : Even slots pe
         let h : i < count = div-lt-iff-lt-mul (n .some) .1 l in
         let k : t < period = omega (arith, mod-lt x (n .some), n .narrow) in
         let v : List ℕ = diagonalAt pairs values i .values in
-        let size : length v ≡ period = length-values i (e .formed) h ∙ e .stored i h in
+        let size : length v ≡ period = e .formed .whole i h ∙ e .stored i h in
         ap (λ (y : ℕ). getD v y 0) (mod-eq-of-lt (rw size k))
         ∙ getD-take (lengthAt pairs i) (drop (startAt pairs i) values) t 0 (rw (e .stored i h) k)
         ∙ getD-drop (startAt pairs i) values t 0
@@ -159,8 +159,8 @@ module _ {slots period count : ℕ} {pairs values : List ℕ} (e : Even slots pe
       same-pairs : (i : ℕ) → i ≤ count → Pairing (offsetAt pairs) p pairs pairs i
       same-pairs zero l = pairing-none (offsetAt pairs) p pairs
       same-pairs (suc i) l =
-          rw (set-getD pairs (2 * i + 1) 0, add-one i) at
-          (pairing-kept {b = lengthAt pairs i} (same-pairs i (omega arith)) (omega (arith, e .formed .pairs-inside)) (e .stored i l ∙ sym q))
+          let r : pairRoom (i + 1) ≤ length pairs = omega (arith, room-mono (i + 1) count (omega arith), e .formed .pairs-inside) in
+          rw (put-same pairs i r, add-one i) at (pairing-more (same-pairs i (omega arith)) r refl (e .stored i l ∙ sym q))
 
       pub shrank-same : Shrank period count pairs pairs values values
       shrank-same =
@@ -170,14 +170,14 @@ module _ {slots period count : ℕ} {pairs values : List ℕ} (e : Even slots pe
 
 -- ---- a map that was built in front of two buffers
 
-module _ {slots period : ℕ} (whole : List Diagonal) (p v : List ℕ) (low : 1 ≤ slots) (high : slots ≤ 65536) (some : 1 ≤ period) (small : period ≤ 65536) (f : FormedMap slots whole) (each : Each (λ d. length (d .values) ≡ period) whole) (rp : 2 * length whole ≤ length p) (rv : length (valueWords whole) ≤ length v) where
+module _ {slots period : ℕ} (whole : List Diagonal) (p v : List ℕ) (low : 1 ≤ slots) (high : slots ≤ 65536) (some : 1 ≤ period) (small : period ≤ 65536) (f : FormedMap slots whole) (each : Each (λ d. length (d .values) ≡ period) whole) (rp : pairRoom (length whole) ≤ length p) (rv : length (valueWords whole) ≤ length v) where
   formed : WellFormed slots (length whole) (inFront (pairWords whole) p) (inFront (valueWords whole) v)
   formed = words-formed slots whole p v f rp rv
 
   stored : (i : ℕ) → i < length whole → lengthAt (inFront (pairWords whole) p) i ≡ period
   unfolding view
   stored i l =
-      sym (length-values i formed l)
+      sym (formed .whole i l)
       ∙ tabulate-each (λ d. length (d .values) ≡ period) (length whole) (diagonalAt (inFront (pairWords whole) p) (inFront (valueWords whole) v)) (subst (Each (λ d. length (d .values) ≡ period)) (sym (view-inFront whole p v)) each) i l
 
   -- what shrinking asks
@@ -189,7 +189,7 @@ module _ {slots period : ℕ} (whole : List Diagonal) (p v : List ℕ) (low : 1 
   unfolding shrunk
   shrunk-written {p₂} {v₂} z s =
       let total : length (valueWords whole) ≡ length whole * period = length-valueWords period whole each in
-      let words : length (pairWords (shrunk whole)) ≡ 2 * length whole = length-pairWords (shrunk whole) ∙ ap (λ (n : ℕ). 2 * n) (length-map whole (atPeriod (commonPeriod whole))) in
+      let words : length (pairWords (shrunk whole)) ≡ pairRoom (length whole) = length-pairWords (shrunk whole) ∙ ap pairRoom (length-map whole (atPeriod (commonPeriod whole))) in
       let back = view-inFront whole p v in
       let sp : p₂ ≡ inFront (pairWords (shrunk whole)) (inFront (pairWords whole) p) = s .pairs ∙ ap (λ (ds : List Diagonal). inFront (pairWords (shrunk ds)) (inFront (pairWords whole) p)) back in
       let sv : v₂ ≡ inFront (freeBehind (length (valueWords whole)) (valueWords (shrunk whole)) v₂) (inFront (valueWords whole) v) =

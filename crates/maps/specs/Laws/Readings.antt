@@ -9,24 +9,24 @@ use native.Mathlib.Omega.{arith}
 use borrow.Author.Tests.{ltb-true, leb-true}
 use lib.Dec.{ltb, leb}
 use lib.ListN.{length, getD}
-use Rattle.ring.specs.Slots.{modulus, mulm}
-use Rattle.ring.specs.Lists.{sumBy, join, Each}
+use Rattle.ring.specs.Slots.{mulm}
+use Rattle.ring.specs.Lists.{sumBy, Each}
 use Rattle.ring.specs.Vectors.{tabulate}
 use Rattle.ring.specs.Laws.Slots.{one-mulm}
 use Rattle.ring.specs.Laws.Lists.{each-all, each-then, each-tabulate, each-map, sumBy-each, sumBy-map, sumBy-residues}
 use Rattle.ring.specs.Laws.Vectors.{length-tabulate}
 use Rattle.diagonals.specs.Products.{cell, product}
-use Rattle.diagonals.specs.SlotMaps.{Term, slotMap}
+use Rattle.diagonals.specs.SlotMaps.{slotMap}
 use Rattle.diagonals.specs.Shrinking.{commonPeriod, atPeriod, shrunk}
-use Rattle.diagonals.specs.Laws.Words.{FormedMap}
+use Rattle.diagonals.specs.Maps.{FormedMap}
 use Rattle.diagonals.specs.Laws.Matrices.{formed-some}
 use Rattle.diagonals.specs.Laws.SlotMaps.{slotMap-formed, slotMap-period}
 use Rattle.diagonals.specs.Laws.Shrinking.{common-divides, shrunk-formed, shrunk-product}
 use Rattle.maps.specs.declared.rules.Rule.{Rule}
 use Rattle.maps.specs.declared.rules.Rule.the-variants.{Sigma, Tau, Transpose, RotateRows, RotateCols, RowsUpper, RowsLower, ColsLeft, ColsRight, RowsLeft, RowsRight}
-use Rattle.maps.specs.Entries.{Entry, place, entryOf, slotOf, entryAt}
-use Rattle.maps.specs.Readings.{reading, reads, readTerms, wholeMap, ruleMap, shiftOf}
-use Rattle.maps.specs.Laws.Entries.{InMatrix, place-low, entry-of-place, slot-low, entry-inside, slot-is, slot-inside}
+use Rattle.maps.specs.Entries.{Entry, InMatrix, place, entryOf, slotOf, entryAt}
+use Rattle.maps.specs.Readings.{reading, reads, readTerms, ruleTerms, wholeMap, ruleMap, shiftOf}
+use Rattle.maps.specs.Laws.Entries.{place-low, entry-of-place, slot-low, entry-inside, slot-is, slot-inside}
 use Rattle.maps.specs.Laws.Terms.{each-join, InPeriod, adds, own-product}
 
 -- ---- what is read is inside the matrix
@@ -55,10 +55,6 @@ module _ (d r c : ℕ) (h : r < d) (k : c < d) where
 
 -- ---- the terms
 
--- all terms of a map, output after output
-abbrev pub ruleTerms : ℕ → Rule → List Term
-ruleTerms d rule = join (readTerms rule d) (tabulate (d * d) (λ t. t))
-
 -- those of output t are of t
 own-terms : (rule : Rule) (d t : ℕ) → Each (λ x. x .i ≡ t) (readTerms rule d t)
 own-terms rule d t =
@@ -66,7 +62,7 @@ own-terms rule d t =
     (each-all (λ e. refl) (reads rule d (entryOf d t .row) (entryOf d t .col)))
 
 -- they stay in the matrix slot
-pub terms-inside : (d : ℕ) (rule : Rule) → 1 ≤ d → shiftOf rule ≤ d → Each (InPeriod (d * d)) (ruleTerms d rule)
+pub terms-inside : (d : ℕ) (rule : Rule) → 1 ≤ d → shiftOf rule ≤ d → Each (InPeriod (d * d)) (ruleTerms rule d)
 terms-inside d rule h l =
     each-join (InPeriod (d * d)) (readTerms rule d) (tabulate (d * d) (λ t. t))
     (each-tabulate (λ t. Each (InPeriod (d * d)) (readTerms rule d t)) (d * d) (λ t. t)
@@ -77,66 +73,66 @@ terms-inside d rule h l =
 
 -- ---- the maps are well formed
 
-module _ (slots d : ℕ) (rule : Rule) (h : 1 ≤ d) (v : d * d ∣ slots) where
-  pub wholeMap-formed : FormedMap slots (wholeMap slots d rule)
+module _ (m slots d : ℕ) (rule : Rule) (h : 1 ≤ d) (v : d * d ∣ slots) where
+  pub wholeMap-formed : FormedMap slots (wholeMap m slots d rule)
   unfolding wholeMap
-  wholeMap-formed = slotMap-formed slots (d * d) (ruleTerms d rule) (one-le-mul h h) v
+  wholeMap-formed = slotMap-formed m slots (d * d) (ruleTerms rule d) (one-le-mul h h) v
 
-  pub wholeMap-period : Each (λ x. length (x .values) ≡ d * d) (wholeMap slots d rule)
+  pub wholeMap-period : Each (λ x. length (x .values) ≡ d * d) (wholeMap m slots d rule)
   unfolding wholeMap
-  wholeMap-period = slotMap-period slots (d * d) (ruleTerms d rule)
+  wholeMap-period = slotMap-period m slots (d * d) (ruleTerms rule d)
 
-  pub ruleMap-formed : FormedMap slots (ruleMap slots d rule)
+  pub ruleMap-formed : FormedMap slots (ruleMap m slots d rule)
   unfolding ruleMap
-  ruleMap-formed = shrunk-formed slots (wholeMap slots d rule) wholeMap-formed
+  ruleMap-formed = shrunk-formed slots (wholeMap m slots d rule) wholeMap-formed
 
-  common-square : commonPeriod (wholeMap slots d rule) ∣ d * d
+  common-square : commonPeriod (wholeMap m slots d rule) ∣ d * d
   common-square =
-      common-divides (wholeMap slots d rule) (formed-some slots (wholeMap slots d rule) wholeMap-formed) (d * d)
+      common-divides (wholeMap m slots d rule) (formed-some slots (wholeMap m slots d rule) wholeMap-formed) (d * d)
       (each-then {Q = λ x. (t : ℕ) → cell (x .values) (t + d * d) ≡ cell (x .values) t}
       (λ x (e : length (x .values) ≡ d * d) t. ap (λ (n : ℕ). getD (x .values) n 0) (ap (λ (n : ℕ). (t + n) % length (x .values)) (sym e) ∙ add-mod-right t (length (x .values))))
-      (wholeMap slots d rule) wholeMap-period)
+      (wholeMap m slots d rule) wholeMap-period)
 
   -- stored at a divisor of d²
-  pub ruleMap-period : Each (λ x. length (x .values) ∣ d * d) (ruleMap slots d rule)
+  pub ruleMap-period : Each (λ x. length (x .values) ∣ d * d) (ruleMap m slots d rule)
   unfolding ruleMap shrunk
   ruleMap-period =
-      each-map (λ x. length (x .values) ∣ d * d) (atPeriod (commonPeriod (wholeMap slots d rule))) (wholeMap slots d rule)
-      (each-all (λ x. subst (λ (n : ℕ). n ∣ d * d) (sym (length-tabulate (commonPeriod (wholeMap slots d rule)) (cell (x .values)))) common-square) (wholeMap slots d rule))
+      each-map (λ x. length (x .values) ∣ d * d) (atPeriod (commonPeriod (wholeMap m slots d rule))) (wholeMap m slots d rule)
+      (each-all (λ x. subst (λ (n : ℕ). n ∣ d * d) (sym (length-tabulate (commonPeriod (wholeMap m slots d rule)) (cell (x .values)))) common-square) (wholeMap m slots d rule))
 
 -- ---- the product
 
-module _ (slots d : ℕ) (rule : Rule) (l : shiftOf rule ≤ d) (v : d * d ∣ slots) (input : List ℕ) where
+module _ (m slots d : ℕ) (rule : Rule) (l : shiftOf rule ≤ d) (v : d * d ∣ slots) (input : List ℕ) where
   module _ (s : ℕ) (e : Entry) (i : InMatrix d e) (k : s < slots / (d * d)) where
     some : 1 ≤ d
     some = omega (arith, i .row-low)
 
     -- a term of this output reads its entry in the same matrix slot
-    read-is : (x : Entry) → InMatrix d x → mulm modulus 1 (getD input ((place d x + s * (d * d)) % slots) 0) ≡ entryAt d input s x % modulus
+    read-is : (x : Entry) → InMatrix d x → mulm m 1 (getD input ((place d x + s * (d * d)) % slots) 0) ≡ entryAt d input s x % m
     read-is x n =
-        one-mulm modulus (getD input ((place d x + s * (d * d)) % slots) 0)
-        ∙ ap (λ (y : ℕ). getD input y 0 % modulus) (ap (λ (y : ℕ). y % slots) (add-comm (place d x) (s * (d * d))) ∙ mod-eq-of-lt (slot-low d x n s slots v k))
+        one-mulm m (getD input ((place d x + s * (d * d)) % slots) 0)
+        ∙ ap (λ (y : ℕ). getD input y 0 % m) (ap (λ (y : ℕ). y % slots) (add-comm (place d x) (s * (d * d))) ∙ mod-eq-of-lt (slot-low d x n s slots v k))
 
-    whole-product : product modulus slots (wholeMap slots d rule) input (s * (d * d) + place d e) ≡ sumBy modulus (entryAt d input s) (reads rule d (e .row) (e .col))
+    whole-product : product m slots (wholeMap m slots d rule) input (s * (d * d) + place d e) ≡ sumBy m (entryAt d input s) (reads rule d (e .row) (e .col))
     unfolding wholeMap
     whole-product =
-        ap (product modulus slots (slotMap slots (d * d) (ruleTerms d rule)) input) (add-comm (s * (d * d)) (place d e))
-        ∙ own-product slots (d * d) (readTerms rule d) (own-terms rule d) input (place d e) s (omega (arith, slot-low d e i s slots v k)) (place-low d e i)
-        ∙ sumBy-map modulus (λ x. record { i = place d e; j = place d x; w = 1 }) (adds slots (d * d) (readTerms rule d) (own-terms rule d) input (place d e) s) (reads rule d (entryOf d (place d e) .row) (entryOf d (place d e) .col))
-        ∙ ap (λ (y : Entry). sumBy modulus (λ x. mulm modulus 1 (getD input ((place d x + s * (d * d)) % slots) 0)) (reads rule d (y .row) (y .col))) (entry-of-place d e i)
-        ∙ sumBy-each modulus (λ x. mulm modulus 1 (getD input ((place d x + s * (d * d)) % slots) 0)) (λ x. entryAt d input s x % modulus) (reads rule d (e .row) (e .col))
+        ap (product m slots (slotMap m slots (d * d) (ruleTerms rule d)) input) (add-comm (s * (d * d)) (place d e))
+        ∙ own-product m slots (d * d) (readTerms rule d) (own-terms rule d) input (place d e) s (omega (arith, slot-low d e i s slots v k)) (place-low d e i)
+        ∙ sumBy-map m (λ x. record { i = place d e; j = place d x; w = 1 }) (adds m slots (d * d) (readTerms rule d) (own-terms rule d) input (place d e) s) (reads rule d (entryOf d (place d e) .row) (entryOf d (place d e) .col))
+        ∙ ap (λ (y : Entry). sumBy m (λ x. mulm m 1 (getD input ((place d x + s * (d * d)) % slots) 0)) (reads rule d (y .row) (y .col))) (entry-of-place d e i)
+        ∙ sumBy-each m (λ x. mulm m 1 (getD input ((place d x + s * (d * d)) % slots) 0)) (λ x. entryAt d input s x % m) (reads rule d (e .row) (e .col))
         (each-then (λ x n. read-is x n) (reads rule d (e .row) (e .col)) (reads-inside d (e .row) (e .col) (i .row-low) (i .col-low) rule l))
-        ∙ sumBy-residues modulus (entryAt d input s) (reads rule d (e .row) (e .col))
+        ∙ sumBy-residues m (entryAt d input s) (reads rule d (e .row) (e .col))
 
     -- entry e of matrix slot s is the entry that e reads, modulo 2^64, or 0
-    pub ruleMap-product : product modulus slots (ruleMap slots d rule) input (s * (d * d) + place d e) ≡ sumBy modulus (entryAt d input s) (reads rule d (e .row) (e .col))
+    pub ruleMap-product : product m slots (ruleMap m slots d rule) input (s * (d * d) + place d e) ≡ sumBy m (entryAt d input s) (reads rule d (e .row) (e .col))
     unfolding ruleMap
     ruleMap-product =
-        shrunk-product slots (wholeMap slots d rule) (wholeMap-formed slots d rule some v) modulus input (s * (d * d) + place d e) (slot-low d e i s slots v k)
+        shrunk-product slots (wholeMap m slots d rule) (wholeMap-formed m slots d rule some v) m input (s * (d * d) + place d e) (slot-low d e i s slots v k)
         ∙ whole-product
 
   -- the same at each slot
-  pub ruleMap-at : 1 ≤ d → (t : ℕ) → t < slots → product modulus slots (ruleMap slots d rule) input t ≡ sumBy modulus (entryAt d input (slotOf d t)) (reads rule d (entryOf d t .row) (entryOf d t .col))
+  pub ruleMap-at : 1 ≤ d → (t : ℕ) → t < slots → product m slots (ruleMap m slots d rule) input t ≡ sumBy m (entryAt d input (slotOf d t)) (reads rule d (entryOf d t .row) (entryOf d t .col))
   ruleMap-at h t k =
-      ap (product modulus slots (ruleMap slots d rule) input) (sym (slot-is d t h))
+      ap (product m slots (ruleMap m slots d rule) input) (sym (slot-is d t h))
       ∙ ruleMap-product (slotOf d t) (entryOf d t) (entry-inside d t h) (slot-inside d t h slots v k)

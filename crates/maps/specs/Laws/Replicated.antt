@@ -9,32 +9,27 @@ use native.Mathlib.Nat.{mod-lt, mod-mod-of-dvd, mod-one, add-mod-mod, add-mul, m
 use native.Mathlib.Omega.{arith}
 use borrow.Author.Tests.{eqb-true}
 use lib.Dec.{eqb}
-use lib.ListN.{length, getD}
-use Rattle.ring.specs.Slots.{modulus, mulm}
+use lib.ListN.{getD}
+use Rattle.ring.specs.Slots.{mulm}
 use Rattle.ring.specs.Lists.{Rising}
 use Rattle.ring.specs.Vectors.{tabulate}
 use Rattle.ring.specs.Laws.Slots.{zero-mulm, one-mulm, mulm-mod}
 use Rattle.ring.specs.Laws.Lists.{each-tabulate, rising-tabulate}
 use Rattle.ring.specs.Laws.Vectors.{length-tabulate, map-tabulate}
 use Rattle.ring.specs.Laws.Below.{sum-one}
-use Rattle.diagonals.specs.Maps.{Formed}
+use Rattle.diagonals.specs.Maps.{Formed, FormedMap}
 use Rattle.diagonals.specs.Products.{cell, term, product}
-use Rattle.diagonals.specs.Laws.Words.{FormedMap}
 use Rattle.diagonals.specs.Laws.Matrices.{cell-tabulate}
 use Rattle.maps.specs.declared.rules.Rule.the-variants.{Tau, RotateRows}
 use Rattle.maps.specs.declared.rules.Product.the-variants.{LeftMul}
-use Rattle.maps.specs.Entries.{Entry, place, entryOf, slotOf, entryAt, publicAt}
-use Rattle.maps.specs.Readings.{reads, ruleMap, tauRep, rotateRowsRep}
-use Rattle.maps.specs.Sums.{factors, productMap, leftMulRep}
-use Rattle.maps.specs.Laws.Entries.{InMatrix, place-of-slot, slot-low, entry-inside, slot-is, slot-inside}
+use Rattle.maps.specs.Entries.{Entry, InMatrix, place, entryOf, slotOf, entryAt, publicAt}
+use Rattle.maps.specs.Readings.{reads, ruleMap, Replicated, tauRep, rotateRowsRep}
+use Rattle.maps.specs.Sums.{factors, productMap, summand, leftMulRep}
+use Rattle.maps.specs.Laws.Entries.{place-of-slot, slot-low, entry-inside, slot-is, slot-inside}
 use Rattle.maps.specs.Laws.Terms.{sum-table, sum-same, sum-turned}
 use Rattle.maps.specs.Laws.Readings.{ruleMap-at}
-use Rattle.maps.specs.Laws.Sums.{summand, productMap-at}
+use Rattle.maps.specs.Laws.Sums.{productMap-at}
 use Rattle.maps.specs.Laws.Stages.{one-sum}
-
--- every matrix slot of the input is matrix slot 0
-abbrev pub Replicated : ℕ → ℕ → List ℕ → Type 0
-Replicated slots d input = (i : ℕ) → i < slots → getD input i 0 ≡ getD input (i % (d * d)) 0
 
 module _ (d : ℕ) (e : Entry) (h : InMatrix d e) (k : ℕ) where
   -- the entry k rows below, gone round
@@ -73,7 +68,7 @@ module _ (slots d : ℕ) (v : d * d ∣ slots) (h : 1 ≤ d) (t : ℕ) (l : t < 
       ∙ ap (λ (x : ℕ). e .row + x) (div-eq-of-lt (in-matrix .col-low))
       ∙ add-zero (e .row)
 
-  module _ (input : List ℕ) (same : Replicated slots d input) where
+  module _ (m : ℕ) (input : List ℕ) (same : Replicated slots d input) where
     -- a rotation by k·d slots reads the row k below in the same matrix slot
     rows-read : (k : ℕ) → getD input ((t + k * d) % slots) 0 ≡ entryAt d input s (below d e in-matrix k)
     rows-read k =
@@ -91,55 +86,55 @@ module _ (slots d : ℕ) (v : d * d ∣ slots) (h : 1 ≤ d) (t : ℕ) (l : t < 
     abbrev read : ℕ → ℕ
     read c = getD input ((t + c * d) % slots) 0
 
-    masked : (c : ℕ) (y : Bool) → eqb (e .col) c ≡ y → mulm modulus (cond y 1 0) (read c) ≡ cond y (mulm modulus 1 (read (e .col))) 0
-    masked c true q = ap (λ (x : ℕ). mulm modulus 1 (read x)) (sym (eqb-true (e .col) c q))
-    masked c false q = zero-mulm modulus (read c)
+    masked : (c : ℕ) (y : Bool) → eqb (e .col) c ≡ y → mulm m (cond y 1 0) (read c) ≡ cond y (mulm m 1 (read (e .col))) 0
+    masked c true q = ap (λ (x : ℕ). mulm m 1 (read x)) (sym (eqb-true (e .col) c q))
+    masked c false q = zero-mulm m (read c)
 
-    tau-reads : product modulus slots (tauRep d) input t ≡ read (e .col) % modulus
+    tau-reads : product m slots (tauRep d) input t ≡ read (e .col) % m
     unfolding product tauRep
     tau-reads =
-        sum-table modulus d (λ c. record { offset = c * d; values = tabulate d (λ x. cond (eqb x c) 1 0) }) (term modulus slots input t)
-        ∙ sum-same modulus d (λ c. mulm modulus (cell (tabulate d (λ x. cond (eqb x c) 1 0)) t) (read c)) (λ c. cond (eqb (e .col) c) (mulm modulus 1 (read (e .col))) 0)
-        (λ c k. ap (λ (x : ℕ). mulm modulus x (read c)) (cell-tabulate d (λ x. cond (eqb x c) 1 0) t (omega arith)) ∙ masked c (eqb (e .col) c) refl)
-        ∙ sum-one modulus (e .col) (mulm modulus 1 (read (e .col))) d (in-matrix .col-low)
-        ∙ mulm-mod modulus 1 (read (e .col))
-        ∙ one-mulm modulus (read (e .col))
+        sum-table m d (λ c. record { offset = c * d; values = tabulate d (λ x. cond (eqb x c) 1 0) }) (term m slots input t)
+        ∙ sum-same m d (λ c. mulm m (cell (tabulate d (λ x. cond (eqb x c) 1 0)) t) (read c)) (λ c. cond (eqb (e .col) c) (mulm m 1 (read (e .col))) 0)
+        (λ c k. ap (λ (x : ℕ). mulm m x (read c)) (cell-tabulate d (λ x. cond (eqb x c) 1 0) t (omega arith)) ∙ masked c (eqb (e .col) c) refl)
+        ∙ sum-one m (e .col) (mulm m 1 (read (e .col))) d (in-matrix .col-low)
+        ∙ mulm-mod m 1 (read (e .col))
+        ∙ one-mulm m (read (e .col))
 
-    pub tauRep-product : product modulus slots (tauRep d) input t ≡ product modulus slots (ruleMap slots d Tau) input t
+    pub tauRep-product : product m slots (tauRep d) input t ≡ product m slots (ruleMap m slots d Tau) input t
     unfolding reads
     tauRep-product =
         tau-reads
-        ∙ ap (λ (x : ℕ). x % modulus) (rows-read (e .col))
-        ∙ sym (ruleMap-at slots d Tau (omega arith) v input h t l ∙ one-sum modulus (entryAt d input s (below d e in-matrix (e .col))))
+        ∙ ap (λ (x : ℕ). x % m) (rows-read (e .col))
+        ∙ sym (ruleMap-at m slots d Tau (omega arith) v input h t l ∙ one-sum m (entryAt d input s (below d e in-matrix (e .col))))
 
     -- ---- `rotate_rows_rep`
 
-    pub rotateRowsRep-product : (k : ℕ) → k ≤ d → product modulus slots (rotateRowsRep slots d k) input t ≡ product modulus slots (ruleMap slots d (RotateRows k)) input t
+    pub rotateRowsRep-product : (k : ℕ) → k ≤ d → product m slots (rotateRowsRep slots d k) input t ≡ product m slots (ruleMap m slots d (RotateRows k)) input t
     unfolding product rotateRowsRep reads
     rotateRowsRep-product k n =
-        one-sum modulus (term modulus slots input t (record { offset = k * d % slots; values = 1 ∷ [] }))
-        ∙ mulm-mod modulus (cell (1 ∷ []) t) (getD input ((t + k * d % slots) % slots) 0)
-        ∙ ap (λ (x : ℕ). mulm modulus (getD (1 ∷ []) x 0) (getD input ((t + k * d % slots) % slots) 0)) (mod-one t)
-        ∙ one-mulm modulus (getD input ((t + k * d % slots) % slots) 0)
-        ∙ ap (λ (x : ℕ). getD input x 0 % modulus) (add-mod-mod t (k * d) slots)
-        ∙ ap (λ (x : ℕ). x % modulus) (rows-read k)
-        ∙ sym (ruleMap-at slots d (RotateRows k) n v input h t l ∙ one-sum modulus (entryAt d input s (below d e in-matrix k)))
+        one-sum m (term m slots input t (record { offset = k * d % slots; values = 1 ∷ [] }))
+        ∙ mulm-mod m (cell (1 ∷ []) t) (getD input ((t + k * d % slots) % slots) 0)
+        ∙ ap (λ (x : ℕ). mulm m (getD (1 ∷ []) x 0) (getD input ((t + k * d % slots) % slots) 0)) (mod-one t)
+        ∙ one-mulm m (getD input ((t + k * d % slots) % slots) 0)
+        ∙ ap (λ (x : ℕ). getD input x 0 % m) (add-mod-mod t (k * d) slots)
+        ∙ ap (λ (x : ℕ). x % m) (rows-read k)
+        ∙ sym (ruleMap-at m slots d (RotateRows k) n v input h t l ∙ one-sum m (entryAt d input s (below d e in-matrix k)))
 
     -- ---- `left_mul_rep`
 
-    pub leftMulRep-product : (b : List ℕ) → product modulus slots (leftMulRep d b) input t ≡ product modulus slots (productMap slots d 1 LeftMul b) input t
+    pub leftMulRep-product : (b : List ℕ) → product m slots (leftMulRep d b) input t ≡ product m slots (productMap m slots d 1 LeftMul b) input t
     unfolding product leftMulRep factors
     leftMulRep-product b =
-        sum-table modulus d (λ j. record { offset = j * d; values = tabulate (d * d) (diagonal d b j) }) (term modulus slots input t)
-        ∙ sum-same modulus d (λ j. mulm modulus (cell (tabulate (d * d) (diagonal d b j)) t) (read j)) (λ j. summand LeftMul d 1 b input s e ((e .row + j) % d))
+        sum-table m d (λ j. record { offset = j * d; values = tabulate (d * d) (diagonal d b j) }) (term m slots input t)
+        ∙ sum-same m d (λ j. mulm m (cell (tabulate (d * d) (diagonal d b j)) t) (read j)) (λ j. summand m LeftMul d 1 b input s e ((e .row + j) % d))
         (λ j k.
-        ap (λ (x : ℕ). mulm modulus x (read j))
+        ap (λ (x : ℕ). mulm m x (read j))
         (cell-tabulate (d * d) (diagonal d b j) t (one-le-mul h h)
         ∙ ap (λ (x : ℕ). publicAt d 1 b 0 (record { row = x; col = (x + j) % d })) row-in
         ∙ ap (λ (x : ℕ). entryAt d b x (record { row = e .row; col = (e .row + j) % d })) (sym (mod-one s)))
-        ∙ ap (mulm modulus (publicAt d 1 b s (record { row = e .row; col = (e .row + j) % d }))) (rows-read j))
-        ∙ sum-turned modulus d (e .row) (summand LeftMul d 1 b input s e) h
-        ∙ sym (productMap-at slots d 1 b input v (omega arith) h t l LeftMul)
+        ∙ ap (mulm m (publicAt d 1 b s (record { row = e .row; col = (e .row + j) % d }))) (rows-read j))
+        ∙ sum-turned m d (e .row) (summand m LeftMul d 1 b input s e) h
+        ∙ sym (productMap-at m slots d 1 b input v (omega arith) h t l LeftMul)
 
 -- ---- the maps are well formed
 
@@ -148,8 +143,8 @@ module _ (slots d : ℕ) (v : d * d ∣ slots) (h : 1 ≤ d) (k : 0 < slots) whe
   spaced : (n : ℕ) → 1 ≤ n → n ∣ slots → (f : ℕ → ℕ → ℕ) → FormedMap slots (tabulate d (λ j. record { offset = j * d; values = tabulate n (f j) }))
   spaced n m w f =
       record {
-        each = each-tabulate (λ x. Formed slots (x .offset) (length (x .values))) d (λ j. record { offset = j * d; values = tabulate n (f j) })
-            (λ j l. rw (length-tabulate n (f j)) (record { low = omega (arith, mul-lt-mul-of-pos-right {m = j} {n = d} {k = d} l (omega arith), le-of-dvd k v); some = m; divides = w }));
+        each = each-tabulate (Formed slots) d (λ j. record { offset = j * d; values = tabulate n (f j) })
+            (λ j l. record { low = omega (arith, mul-lt-mul-of-pos-right {m = j} {n = d} {k = d} l (omega arith), le-of-dvd k v); some = rw (length-tabulate n (f j)) m; divides = rw (length-tabulate n (f j)) w });
         rising = subst Rising (sym (map-tabulate (λ x. x .offset) d (λ j. record { offset = j * d; values = tabulate n (f j) })))
             (rising-tabulate d (λ j. j * d) (λ i j l m. mul-lt-mul-of-pos-right l (omega arith)));
       }

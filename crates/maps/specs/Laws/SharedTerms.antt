@@ -6,39 +6,40 @@ use mathlib.Core.Bool.{Bool, false, not, _||_}
 use mathlib.Core.List.{List, [], _∷_, _++_}
 use native.Mathlib.Nat.{suc-ne-zero, one-mul}
 use native.Mathlib.Omega.{arith}
-use borrow.Author.Tests.{ne-eqb, ltb-false}
-use lib.Dec.{eqb, ltb}
+use borrow.Author.Tests.{ne-eqb}
+use lib.Dec.{eqb}
 use lib.ListN.{length}
+use Rattle.ring.specs.Slots.{modulus}
 use Rattle.ring.specs.Vectors.{inFront}
-use Rattle.ring.specs.Refusals.{outside, noPeriod}
+use Rattle.ring.specs.Refusals.{firstOf, outside, noPeriod}
 use Rattle.ring.specs.declared.Answer.{Answer}
 use Rattle.ring.specs.declared.Answer.the-variants.{Refused, Is}
 use Rattle.ring.specs.Laws.Divisors.{divides-yes}
-use Rattle.ring.specs.Laws.Refusals.{onAccept-accepted, none-holds, either, not-outside}
+use Rattle.ring.specs.Laws.Refusals.{onAccept-accepted, none-holds, none-of-both, not-outside}
 use Rattle.ring.specs.Laws.Answers.{when-is}
-use Rattle.diagonals.specs.Maps.{Diagonal}
-use Rattle.diagonals.specs.Setting.{pairWords, valueWords}
+use Rattle.diagonals.specs.Maps.{Diagonal, pairRoom, pairWords, valueWords}
 use Rattle.diagonals.specs.SlotMaps.{Term, termsOf, inRange, slotMap}
-use Rattle.diagonals.specs.Calls.{noRoom, MapWritten, slotMapRefusal}
-use Rattle.diagonals.specs.Laws.Words.{length-pairWords}
+use Rattle.diagonals.specs.Calls.{mapRoom, MapWritten, slotMapRefusal}
+use Rattle.diagonals.specs.Laws.Calls.{room-fits}
 use Rattle.diagonals.specs.Laws.SlotMaps.{slotMap-formed, slotMap-period}
 use Rattle.maps.specs.declared.rules.Rule.{Rule}
-use Rattle.maps.specs.Readings.{wholeMap, shiftOf}
+use Rattle.maps.specs.Readings.{ruleTerms, wholeMap}
 use Rattle.maps.specs.Calls.{ShrunkWritten, tileRefusals, matrixTermsMap, perMatrixRefusal, ruleRefusal, RuleWritten}
-use Rattle.maps.specs.TileSteps.{Tiles, TilesJudged}
-use Rattle.maps.specs.ReadingSteps.{ruleTerms}
-use Rattle.maps.specs.ShrinkSteps.{Even, Shrank}
+use Rattle.maps.specs.Steps.Tiles.{Tiles, TilesJudged}
+use Rattle.maps.specs.Steps.Readings.{ruleRefusals}
+use Rattle.maps.specs.Steps.Shrinking.{Even, Shrank}
 use Rattle.maps.specs.Laws.Tiling.{square-pos, square-low, not-refused, tiles-first, tiles-later}
 use Rattle.maps.specs.Laws.Narrow.{even-words, shrunk-written, shrunk-refused, build-refused}
 
-period-divides : {slots l : ℕ} → Tiles slots l 1 → 2 ^ l * 2 ^ l ∣ slots
+-- the square of the side divides slots
+pub period-divides : {slots l : ℕ} → Tiles slots l 1 → 2 ^ l * 2 ^ l ∣ slots
 period-divides t = rw one-mul at (t .divides)
 
 -- ---- a slot map at period d² that was built, not refused
 
-module _ {slots l e n : ℕ} (ts : List Term) (t : Tiles slots l 1) {p p₁ v v₁ : List ℕ} {a : Answer} (m : MapWritten e (slotMap slots (2 ^ l * 2 ^ l) ts) p p₁ v v₁ a) (q : a ≡ Is n) where
+module _ {slots l e n : ℕ} (ts : List Term) (t : Tiles slots l 1) {p p₁ v v₁ : List ℕ} {a : Answer} (m : MapWritten e (slotMap modulus slots (2 ^ l * 2 ^ l) ts) p p₁ v v₁ a) (q : a ≡ Is n) where
   abbrev built : List Diagonal
-  built = slotMap slots (2 ^ l * 2 ^ l) ts
+  built = slotMap modulus slots (2 ^ l * 2 ^ l) ts
 
   accepted : e ≡ 0
   accepted = when-is e (length built) n (sym q ∙ m .answer) .0
@@ -52,25 +53,23 @@ module _ {slots l e n : ℕ} (ts : List Term) (t : Tiles slots l 1) {p p₁ v v�
   values-are : v₁ ≡ inFront (valueWords built) v
   values-are = m .values ∙ onAccept-accepted _ _ _ accepted
 
-  module _ (fits : noRoom built p v ≡ false) where
-    room : (length (pairWords built) ≤ length p) × (length (valueWords built) ≤ length v)
-    room =
-        let h = either (ltb (length p) (length (pairWords built))) (ltb (length v) (length (valueWords built))) fits in
-        (ltb-false _ _ (h .0), ltb-false _ _ (h .1))
+  module _ (fits : firstOf (mapRoom built p v) ≡ 0) where
+    room : (pairRoom (length built) ≤ length p) × (length (valueWords built) ≤ length v)
+    room = room-fits built p v fits
 
     terms-even : Even slots (2 ^ l * 2 ^ l) n p₁ v₁
     terms-even =
         rw (count-is, pairs-are, values-are)
         (even-words built p v (t .low) (t .high) (square-pos l) (square-low l (t .log-low))
-        (slotMap-formed slots (2 ^ l * 2 ^ l) ts (square-pos l) (period-divides t)) (slotMap-period slots (2 ^ l * 2 ^ l) ts)
-        (omega (arith, length-pairWords built, room .0)) (room .1))
+        (slotMap-formed modulus slots (2 ^ l * 2 ^ l) ts (square-pos l) (period-divides t)) (slotMap-period modulus slots (2 ^ l * 2 ^ l) ts)
+        (room .0) (room .1))
 
     terms-shrunk : {p₂ v₂ : List ℕ} → Shrank (2 ^ l * 2 ^ l) n p₁ p₂ v₁ v₂ → ShrunkWritten e built p p₂ v v₂ (Is n)
     terms-shrunk s =
         rw count-is
         (shrunk-written built p v (t .low) (t .high) (square-pos l) (square-low l (t .log-low))
-        (slotMap-formed slots (2 ^ l * 2 ^ l) ts (square-pos l) (period-divides t)) (slotMap-period slots (2 ^ l * 2 ^ l) ts)
-        (omega (arith, length-pairWords built, room .0)) (room .1)
+        (slotMap-formed modulus slots (2 ^ l * 2 ^ l) ts (square-pos l) (period-divides t)) (slotMap-period modulus slots (2 ^ l * 2 ^ l) ts)
+        (room .0) (room .1)
         accepted (rw (count-is, pairs-are, values-are) at s))
 
 -- ---- `per_matrix_map`
@@ -83,8 +82,7 @@ module _ {slots l r : ℕ} (j : TilesJudged slots l 1 r) (is js ws p v : List �
   behind =
       (not (eqb (length is) (length js)) || not (eqb (length is) (length ws)), 7)
       ∷ (not (inRange slots (2 ^ l * 2 ^ l) is js), 8)
-      ∷ (noRoom whole p v, 12)
-      ∷ []
+      ∷ mapRoom whole p v
 
   -- the call, and the building in it
   abbrev Written : List ℕ → List ℕ → Answer → Type 0
@@ -112,10 +110,11 @@ module _ {slots l r : ℕ} (j : TilesJudged slots l 1 r) (is js ws p v : List �
       not-built {x} q = build-refused (subst (λ (b : Answer). MapWritten (perMatrixRefusal slots l is js ws p v) whole p p₁ v v₁ b) q call-built)
 
       module _ {n : ℕ} (q : a ≡ Is n) where
-        fits : noRoom whole p v ≡ false
+        fits : firstOf (mapRoom whole p v) ≡ 0
         fits =
-            let h = none-holds (tileRefusals slots l 1 ++ behind) (suc-ne-zero 0, (suc-ne-zero 4, (suc-ne-zero 6, (suc-ne-zero 7, (suc-ne-zero 11, tt))))) (accepted (termsOf is js ws) (j .tiles z) call-built q) in
-            h .1 .1 .1 .1 .0
+            none-of-both
+            (tileRefusals slots l 1 ++ (not (eqb (length is) (length js)) || not (eqb (length is) (length ws)), 7) ∷ (not (inRange slots (2 ^ l * 2 ^ l) is js), 8) ∷ [])
+            (mapRoom whole p v) (suc-ne-zero 0, (suc-ne-zero 4, (suc-ne-zero 6, (suc-ne-zero 7, tt)))) (accepted (termsOf is js ws) (j .tiles z) call-built q) .1
 
         pub built-even : Even slots (2 ^ l * 2 ^ l) n p₁ v₁
         built-even = terms-even (termsOf is js ws) (j .tiles z) call-built q fits
@@ -125,28 +124,24 @@ module _ {slots l r : ℕ} (j : TilesJudged slots l 1 r) (is js ws p v : List �
 
 -- ---- the maps that read one entry or none
 
-module _ (slots l : ℕ) (rule : Rule) {p p₁ v v₁ : List ℕ} {a : Answer} (m : MapWritten (ruleRefusal slots l rule p v) (wholeMap slots (2 ^ l) rule) p p₁ v v₁ a) where
+module _ (slots l : ℕ) (rule : Rule) {p p₁ v v₁ : List ℕ} {a : Answer} (m : MapWritten (ruleRefusal slots l rule p v) (wholeMap modulus slots (2 ^ l) rule) p p₁ v v₁ a) where
   pub rule-not-built : {x : ℕ} → a ≡ Refused x → RuleWritten slots l rule p p₁ v v₁ (Refused x)
-  rule-not-built q = build-refused (subst (λ (b : Answer). MapWritten (ruleRefusal slots l rule p v) (wholeMap slots (2 ^ l) rule) p p₁ v v₁ b) q m)
+  rule-not-built q = build-refused (subst (λ (b : Answer). MapWritten (ruleRefusal slots l rule p v) (wholeMap modulus slots (2 ^ l) rule) p p₁ v v₁ b) q m)
 
   module _ {n : ℕ} (q : a ≡ Is n) where
-    abbrev conditions : List (Bool × ℕ)
-    conditions = tileRefusals slots l 1 ++ (ltb (2 ^ l) (shiftOf rule), 6) ∷ (noRoom (wholeMap slots (2 ^ l) rule) p v, 12) ∷ []
+    -- no condition holds, and there is room
+    rule-none : (firstOf (ruleRefusals slots l rule) ≡ 0) × (firstOf (mapRoom (wholeMap modulus slots (2 ^ l) rule) p v) ≡ 0)
+    rule-none = none-of-both (ruleRefusals slots l rule) (mapRoom (wholeMap modulus slots (2 ^ l) rule) p v) (suc-ne-zero 0, (suc-ne-zero 4, (suc-ne-zero 5, tt))) (when-is _ _ n (sym q ∙ m .answer) .0)
 
     pub rule-tiles : Tiles slots l 1
     rule-tiles =
-        let h = none-holds conditions (suc-ne-zero 0, (suc-ne-zero 4, (suc-ne-zero 5, (suc-ne-zero 11, tt)))) (when-is _ _ n (sym q ∙ m .answer) .0) in
+        let h = none-holds (ruleRefusals slots l rule) (suc-ne-zero 0, (suc-ne-zero 4, (suc-ne-zero 5, tt))) (rule-none .0) in
         not-refused (h .0) (h .1 .0)
-
-    rule-fits : noRoom (wholeMap slots (2 ^ l) rule) p v ≡ false
-    rule-fits =
-        let h = none-holds conditions (suc-ne-zero 0, (suc-ne-zero 4, (suc-ne-zero 5, (suc-ne-zero 11, tt)))) (when-is _ _ n (sym q ∙ m .answer) .0) in
-        h .1 .1 .1 .0
 
     pub rule-even : Even slots (2 ^ l * 2 ^ l) n p₁ v₁
     unfolding wholeMap
-    rule-even = terms-even (ruleTerms rule (2 ^ l)) rule-tiles m q rule-fits
+    rule-even = terms-even (ruleTerms rule (2 ^ l)) rule-tiles m q (rule-none .1)
 
     pub rule-shrunk : {p₂ v₂ : List ℕ} → Shrank (2 ^ l * 2 ^ l) n p₁ p₂ v₁ v₂ → RuleWritten slots l rule p p₂ v v₂ (Is n)
     unfolding wholeMap
-    rule-shrunk s = terms-shrunk (ruleTerms rule (2 ^ l)) rule-tiles m q rule-fits s
+    rule-shrunk s = terms-shrunk (ruleTerms rule (2 ^ l)) rule-tiles m q (rule-none .1) s

@@ -10,7 +10,7 @@ use borrow.Author.Tests.{lt-ltb, le-ltb, ne-eqb}
 use lib.Dec.{eqb, ltb}
 use lib.ListN.{length, drop}
 use Rattle.ring.specs.Vectors.{tabulate, filled, inFront}
-use Rattle.ring.specs.Refusals.{pick, firstOf, outside, noPeriod}
+use Rattle.ring.specs.Refusals.{firstOf, outside, noPeriod}
 use Rattle.ring.specs.declared.Answer.the-variants.{Refused, Is}
 use Rattle.ring.specs.Laws.Vectors.{length-tabulate, tabulate-cong, filled-front}
 use Rattle.ring.specs.Laws.Refusals.{onAccept-refused, onAccept-accepted, first-refused, first-later}
@@ -18,17 +18,17 @@ use Rattle.ring.specs.Laws.Answers.{answered-refused, answered-accepted}
 use Rattle.maps.specs.Entries.{place, entryOf}
 use Rattle.maps.specs.Values.{skewed, skewedValues, onDiagonal, slotProduct, firstRow, firstCol}
 use Rattle.maps.specs.Calls.{valuesRefusal, ValuesWritten, tiledRefusal, slotProductRefusal}
-use Rattle.maps.specs.RowSteps.{ones}
-use Rattle.maps.specs.ValueSteps.{skewedPlace, skewedAt, valuesRefusals, ValuesJudged, OnesWritten}
+use Rattle.maps.specs.Steps.Rows.{ones}
+use Rattle.maps.specs.Steps.Values.{skewedPlace, skewedAt, valuesRefusals, ValuesJudged, OnesWritten}
 use lib.IntN.{ℤ}
 use Rattle.ring.specs.Rotations.{rotated}
 use Rattle.ring.specs.Laws.Rotations.{length-rotated}
 use Rattle.ring.specs.declared.Answer.{Answer}
-use Rattle.diagonals.specs.Maps.{Diagonal}
-use Rattle.diagonals.specs.Calls.{noRoom, MapWritten}
-use Rattle.diagonals.specs.Laws.Calls.{written-refused}
-use Rattle.maps.specs.TileSteps.{TilesJudged, NoRoom}
-use Rattle.maps.specs.Laws.Rows.{room-by, values-one, one-written, no-room-written, tiled-then}
+use Rattle.diagonals.specs.Maps.{Diagonal, putPair}
+use Rattle.diagonals.specs.Calls.{mapRoom, RoomJudged, MapWritten}
+use Rattle.diagonals.specs.Laws.Calls.{room-of, written-refused}
+use Rattle.maps.specs.Steps.Tiles.{TilesJudged}
+use Rattle.maps.specs.Laws.Rows.{values-one, one-written, tiled-then}
 use Rattle.maps.specs.Laws.Tiling.{side-pos, square-pos}
 
 -- ---- places
@@ -127,20 +127,20 @@ unfolding firstCol
 first-col-is d = ap onDiagonal (tabulate-cong d _ (ones 1) (λ t l. rw (zero-or t)))
 
 -- one diagonal of ones: no room, or written
-module _ (n len : ℕ) (pairs₀ values₀ : List ℕ) {t : Bool} (h : NoRoom 1 len (length pairs₀) (length values₀) t) where
+module _ (n len : ℕ) (pairs₀ values₀ : List ℕ) {t : ℕ} (h : RoomJudged 1 len (length pairs₀) (length values₀) t) where
   abbrev projection : Diagonal
   projection = record { offset = 0; values = tabulate len (ones n) }
 
-  ones-room : noRoom (projection ∷ []) pairs₀ values₀ ≡ t
-  ones-room = room-by (projection ∷ []) pairs₀ values₀ refl (ap length (values-one projection) ∙ length-tabulate len (ones n)) h
+  ones-room : t ≡ firstOf (mapRoom (projection ∷ []) pairs₀ values₀)
+  ones-room = room-of (projection ∷ []) pairs₀ values₀ refl (sym (ap length (values-one projection) ∙ length-tabulate len (ones n))) h
 
-  pub ones-no-room : t ≡ true → OnesWritten n len pairs₀ pairs₀ values₀ values₀ (Refused 12)
-  ones-no-room e = no-room-written refl (ones-room ∙ e)
+  pub ones-no-room : (t ≡ 0 → ⊥) → OnesWritten n len pairs₀ pairs₀ values₀ values₀ (Refused t)
+  ones-no-room e = written-refused ones-room e
 
-  pub ones-written : {pairs₁ values₁ : List ℕ} → t ≡ false → pairs₁ ≡ inFront (0 ∷ len ∷ []) pairs₀ → values₁ ≡ filled (ones n) len values₀ → OnesWritten n len pairs₀ pairs₁ values₀ values₁ (Is 1)
+  pub ones-written : {pairs₁ values₁ : List ℕ} → t ≡ 0 → pairs₁ ≡ putPair pairs₀ 0 0 len → values₁ ≡ filled (ones n) len values₀ → OnesWritten n len pairs₀ pairs₁ values₀ values₁ (Is 1)
   ones-written e p v =
-      one-written projection (rw (ones-room ∙ e))
-      (p ∙ ap (λ (m : ℕ). inFront (0 ∷ m ∷ []) pairs₀) (sym (length-tabulate len (ones n))))
+      one-written projection (sym ones-room ∙ e)
+      (p ∙ ap (putPair pairs₀ 0 0) (sym (length-tabulate len (ones n)))) (h .pairs-fit e)
       (v ∙ filled-front (ones n) len values₀)
 
 module _ {slots l r d : ℕ} (j : TilesJudged slots l 1 r) (z : r ≡ 0) (e : d ≡ 2 ^ l) {pairs₀ pairs₁ values₀ values₁ : List ℕ} {a : Answer} where
@@ -152,20 +152,20 @@ module _ {slots l r d : ℕ} (j : TilesJudged slots l 1 r) (z : r ≡ 0) (e : d 
 
 -- ---- products by slot vectors
 
-module _ (slots : ℕ) (v : List ℕ) (k : ℤ) (pairs₀ values₀ : List ℕ) {t : Bool} (a : outside slots ≡ false) (b : noPeriod slots (length v) ≡ false) (h : NoRoom 1 (length v) (length pairs₀) (length values₀) t) where
+module _ (slots : ℕ) (v : List ℕ) (k : ℤ) (pairs₀ values₀ : List ℕ) {t : ℕ} (a : outside slots ≡ false) (b : noPeriod slots (length v) ≡ false) (h : RoomJudged 1 (length v) (length pairs₀) (length values₀) t) where
   abbrev turned : Diagonal
   turned = record { offset = 0; values = rotated v k (length v) }
 
-  product-refusal : slotProductRefusal slots v k pairs₀ values₀ ≡ pick t 12 0
+  product-refusal : slotProductRefusal slots v k pairs₀ values₀ ≡ t
   unfolding slotProduct
-  product-refusal = rw (a, b, room-by (turned ∷ []) pairs₀ values₀ refl (ap length (values-one turned) ∙ length-rotated v k (length v)) h)
+  product-refusal = rw (a, b) (sym (room-of (turned ∷ []) pairs₀ values₀ refl (sym (ap length (values-one turned) ∙ length-rotated v k (length v))) h))
 
-  pub product-no-room : t ≡ true → MapWritten (slotProductRefusal slots v k pairs₀ values₀) (slotProduct v k) pairs₀ pairs₀ values₀ values₀ (Refused 12)
-  product-no-room e = written-refused (sym (product-refusal ∙ rw e)) (suc-ne-zero 11)
+  pub product-no-room : (t ≡ 0 → ⊥) → MapWritten (slotProductRefusal slots v k pairs₀ values₀) (slotProduct v k) pairs₀ pairs₀ values₀ values₀ (Refused t)
+  product-no-room e = written-refused (sym product-refusal) e
 
-  pub product-written : {pairs₁ values₁ out : List ℕ} → t ≡ false → pairs₁ ≡ inFront (0 ∷ length v ∷ []) pairs₀ → out ≡ rotated v k (length v) → values₁ ≡ out ++ drop (length v) values₀ → MapWritten (slotProductRefusal slots v k pairs₀ values₀) (slotProduct v k) pairs₀ pairs₁ values₀ values₁ (Is 1)
+  pub product-written : {pairs₁ values₁ out : List ℕ} → t ≡ 0 → pairs₁ ≡ putPair pairs₀ 0 0 (length v) → out ≡ rotated v k (length v) → values₁ ≡ out ++ drop (length v) values₀ → MapWritten (slotProductRefusal slots v k pairs₀ values₀) (slotProduct v k) pairs₀ pairs₁ values₀ values₁ (Is 1)
   unfolding slotProduct inFront
   product-written e p o w =
-      one-written turned (product-refusal ∙ rw e)
-      (p ∙ ap (λ (m : ℕ). inFront (0 ∷ m ∷ []) pairs₀) (sym (length-rotated v k (length v))))
+      one-written turned (product-refusal ∙ e)
+      (p ∙ ap (putPair pairs₀ 0 0) (sym (length-rotated v k (length v)))) (h .pairs-fit e)
       (w ∙ rw (o, length-rotated))

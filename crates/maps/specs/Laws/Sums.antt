@@ -9,20 +9,19 @@ use native.Mathlib.Omega.{arith}
 use borrow.Author.Tests.{eqb-true}
 use lib.Dec.{eqb}
 use lib.ListN.{length, getD}
-use Rattle.ring.specs.Slots.{modulus, mulm}
-use Rattle.ring.specs.Lists.{sumBy, join, Each}
+use Rattle.ring.specs.Slots.{mulm}
+use Rattle.ring.specs.Lists.{join, Each}
 use Rattle.ring.specs.Vectors.{tabulate}
 use Rattle.ring.specs.Laws.Lists.{each-tabulate}
-use Rattle.diagonals.specs.Maps.{Diagonal}
+use Rattle.diagonals.specs.Maps.{Diagonal, FormedMap}
 use Rattle.diagonals.specs.Products.{product}
-use Rattle.diagonals.specs.SlotMaps.{Term, slotMap}
-use Rattle.diagonals.specs.Laws.Words.{FormedMap}
+use Rattle.diagonals.specs.SlotMaps.{slotMap}
 use Rattle.diagonals.specs.Laws.SlotMaps.{slotMap-formed, slotMap-period}
 use Rattle.maps.specs.declared.rules.Product.{Product}
 use Rattle.maps.specs.declared.rules.Product.the-variants.{RightMul, LeftMul, RightJkls, LeftJkls}
-use Rattle.maps.specs.Entries.{Entry, place, entryOf, slotOf, entryAt, publicAt}
-use Rattle.maps.specs.Sums.{Factors, factors, periodOf, sumTerm, productMap}
-use Rattle.maps.specs.Laws.Entries.{InMatrix, place-low, slot-rows, entry-of-slot, slot-of-slot, slot-low, entry-inside, slot-is, slot-inside}
+use Rattle.maps.specs.Entries.{Entry, InMatrix, place, entryOf, slotOf, entryAt, publicAt}
+use Rattle.maps.specs.Sums.{Factors, factors, periodOf, sumTerm, outputTerms, productMap, summand, formula}
+use Rattle.maps.specs.Laws.Entries.{place-low, slot-rows, entry-of-slot, slot-of-slot, slot-low, entry-inside, slot-is, slot-inside}
 use Rattle.maps.specs.Laws.Terms.{sum-table, sum-same, each-join, InPeriod, adds, own-product}
 
 -- ---- the factors are inside their matrices
@@ -46,40 +45,27 @@ factors-inside LeftJkls d r c l h k n =
       of-public = record { row-low = h; col-low = mod-lt (r + c + l) (omega arith) };
     }
 
--- ---- the formula
-
--- the l-th summand of entry e of matrix slot s
-abbrev pub summand : Product → ℕ → ℕ → List ℕ → List ℕ → ℕ → Entry → ℕ → ℕ
-summand p d count b input s e l =
-    mulm modulus (publicAt d count b s (factors p d (e .row) (e .col) l .public)) (entryAt d input s (factors p d (e .row) (e .col) l .input))
-
-abbrev pub formula : Product → ℕ → ℕ → List ℕ → List ℕ → ℕ → Entry → ℕ
-formula p d count b input s e = sumBy modulus (summand p d count b input s e) (tabulate d (λ l. l))
-
 -- ---- the terms at any period
 
-abbrev pub outputTerms : Product → ℕ → ℕ → List ℕ → ℕ → List Term
-outputTerms p d count b t = tabulate d (sumTerm p d count b t)
-
-abbrev pub mapAt : ℕ → ℕ → Product → ℕ → ℕ → List ℕ → List Diagonal
-mapAt slots period p d count b = slotMap slots period (join (outputTerms p d count b) (tabulate period (λ t. t)))
+abbrev pub mapAt : ℕ → ℕ → ℕ → Product → ℕ → ℕ → List ℕ → List Diagonal
+mapAt m slots period p d count b = slotMap m slots period (join (outputTerms p d count b) (tabulate period (λ t. t)))
 
 own-terms : (p : Product) (d count : ℕ) (b : List ℕ) (t : ℕ) → Each (λ x. x .i ≡ t) (outputTerms p d count b t)
 own-terms p d count b t = each-tabulate (λ x. x .i ≡ t) d (sumTerm p d count b t) (λ l k. refl)
 
-module _ (slots d count : ℕ) (b input : List ℕ) (v : d * d ∣ slots) (n : 1 ≤ count) (s : ℕ) (e : Entry) (h : InMatrix d e) (k : s < slots / (d * d)) where
+module _ (m slots d count : ℕ) (b input : List ℕ) (v : d * d ∣ slots) (n : 1 ≤ count) (s : ℕ) (e : Entry) (h : InMatrix d e) (k : s < slots / (d * d)) where
   abbrev slot : ℕ
   slot = s * (d * d) + place d e
 
   -- output i of period q, where it is this slot and its summands are those of the formula
   by-output : (p : Product) (period i q : ℕ) → i < period → i + q * period ≡ slot
-      → ((l : ℕ) → l < d → adds slots period (outputTerms p d count b) (own-terms p d count b) input i q (sumTerm p d count b i l) ≡ summand p d count b input s e l)
-      → product modulus slots (mapAt slots period p d count b) input slot ≡ formula p d count b input s e
+      → ((l : ℕ) → l < d → adds m slots period (outputTerms p d count b) (own-terms p d count b) input i q (sumTerm p d count b i l) ≡ summand m p d count b input s e l)
+      → product m slots (mapAt m slots period p d count b) input slot ≡ formula m p d count b input s e
   by-output p period i q l same each =
-      ap (product modulus slots (mapAt slots period p d count b) input) (sym same)
-      ∙ own-product slots period (outputTerms p d count b) (own-terms p d count b) input i q (omega (arith, slot-low d e h s slots v k)) l
-      ∙ sum-table modulus d (sumTerm p d count b i) (adds slots period (outputTerms p d count b) (own-terms p d count b) input i q)
-      ∙ sum-same modulus d _ (summand p d count b input s e) each
+      ap (product m slots (mapAt m slots period p d count b) input) (sym same)
+      ∙ own-product m slots period (outputTerms p d count b) (own-terms p d count b) input i q (omega (arith, slot-low d e h s slots v k)) l
+      ∙ sum-table m d (sumTerm p d count b i) (adds m slots period (outputTerms p d count b) (own-terms p d count b) input i q)
+      ∙ sum-same m d _ (summand m p d count b input s e) each
 
   -- an entry of matrix slot s
   reads-slot : (x : Entry) → InMatrix d x → (y : ℕ) → y ≡ s * (d * d) + place d x → getD input (y % slots) 0 ≡ entryAt d input s x
@@ -99,23 +85,23 @@ module _ (slots d count : ℕ) (b input : List ℕ) (v : d * d ∣ slots) (n : 1
   abbrev at-first : Product → ℕ → Entry → ℕ → ℕ
   at-first p l x z =
       let f = factors p d (x .row) (x .col) l in
-      mulm modulus (publicAt d count b z (f .public)) (getD input ((z * (d * d) + place d (f .input) + s / count * (count * (d * d))) % slots) 0)
+      mulm m (publicAt d count b z (f .public)) (getD input ((z * (d * d) + place d (f .input) + s / count * (count * (d * d))) % slots) 0)
 
-  whole : (p : Product) → product modulus slots (mapAt slots (count * (d * d)) p d count b) input slot ≡ formula p d count b input s e
+  whole : (p : Product) → product m slots (mapAt m slots (count * (d * d)) p d count b) input slot ≡ formula m p d count b input s e
   whole p =
       by-output p (count * (d * d)) first (s / count) first-low (turns (place d e))
       (λ l low.
       ap (λ (x : Entry). at-first p l x (slotOf d first)) (entry-of-slot d e h (s % count))
       ∙ ap (at-first p l e) (slot-of-slot d e h (s % count))
-      ∙ ap (mulm modulus (publicAt d count b (s % count) (factors p d (e .row) (e .col) l .public)))
+      ∙ ap (mulm m (publicAt d count b (s % count) (factors p d (e .row) (e .col) l .public)))
       (reads-slot (factors p d (e .row) (e .col) l .input) (factors-inside p d (e .row) (e .col) l (h .row-low) (h .col-low) low .of-input) _ (turns (place d (factors p d (e .row) (e .col) l .input))))
-      ∙ ap (λ (z : ℕ). mulm modulus (entryAt d b z (factors p d (e .row) (e .col) l .public)) (entryAt d input s (factors p d (e .row) (e .col) l .input))) (mod-mod s count))
+      ∙ ap (λ (z : ℕ). mulm m (entryAt d b z (factors p d (e .row) (e .col) l .public)) (entryAt d input s (factors p d (e .row) (e .col) l .input))) (mod-mod s count))
 
   -- the right product of one matrix at period d: this slot is output col of row s·d + row
   abbrev at-narrow : ℕ → Entry → ℕ → ℕ
   at-narrow l x z =
       let f = factors RightMul d (x .row) (x .col) l in
-      mulm modulus (publicAt d count b z (f .public)) (getD input ((z * (d * d) + place d (f .input) + (s * d + e .row) * d) % slots) 0)
+      mulm m (publicAt d count b z (f .public)) (getD input ((z * (d * d) + place d (f .input) + (s * d + e .row) * d) % slots) 0)
 
   output-is : entryOf d (e .col) ≡ record { row = 0; col = e .col }
   output-is =
@@ -123,7 +109,7 @@ module _ (slots d count : ℕ) (b input : List ℕ) (v : d * d ∣ slots) (n : 1
       ∙ ap (λ (x : ℕ). let y : Entry = record { row = x; col = e .col % d } in y) (zero-mod d)
       ∙ ap (λ (x : ℕ). let y : Entry = record { row = 0; col = x } in y) (mod-eq-of-lt (h .col-low))
 
-  narrow : count ≡ 1 → product modulus slots (mapAt slots d RightMul d count b) input slot ≡ formula RightMul d count b input s e
+  narrow : count ≡ 1 → product m slots (mapAt m slots d RightMul d count b) input slot ≡ formula m RightMul d count b input s e
   unfolding factors
   narrow one =
       by-output RightMul d (e .col) (s * d + e .row) (h .col-low)
@@ -131,18 +117,18 @@ module _ (slots d count : ℕ) (b input : List ℕ) (v : d * d ∣ slots) (n : 1
       (λ l low.
       ap (λ (x : Entry). at-narrow l x (slotOf d (e .col))) output-is
       ∙ ap (at-narrow l (record { row = 0; col = e .col })) (div-eq-of-lt (let y : e .col < d * d = omega (arith, place-low d e h) in y))
-      ∙ ap (mulm modulus (publicAt d count b 0 (record { row = l; col = e .col })))
+      ∙ ap (mulm m (publicAt d count b 0 (record { row = l; col = e .col })))
       (reads-slot (record { row = e .row; col = l }) (record { row-low = h .row-low; col-low = low }) _
       (omega (arith, zero-mul (d * d), zero-mul d, slot-rows d (record { row = e .row; col = l }) (record { row-low = h .row-low; col-low = low }) s)))
-      ∙ ap (λ (z : ℕ). mulm modulus (entryAt d b z (record { row = l; col = e .col })) (entryAt d input s (record { row = e .row; col = l })))
+      ∙ ap (λ (z : ℕ). mulm m (entryAt d b z (record { row = l; col = e .col })) (entryAt d input s (record { row = e .row; col = l })))
       (zero-mod count ∙ sym (ap (λ (z : ℕ). s % z) one ∙ mod-one s)))
 
   -- entry e of matrix slot s is the sum of the d products, modulo 2^64
-  pub productMap-product : (p : Product) → product modulus slots (productMap slots d count p b) input (s * (d * d) + place d e) ≡ formula p d count b input s e
+  pub productMap-product : (p : Product) → product m slots (productMap m slots d count p b) input (s * (d * d) + place d e) ≡ formula m p d count b input s e
   unfolding productMap periodOf
   productMap-product RightMul = by (eqb count 1) refl
     where
-      by : (t : Bool) → eqb count 1 ≡ t → product modulus slots (mapAt slots (cond t d (count * (d * d))) RightMul d count b) input slot ≡ formula RightMul d count b input s e
+      by : (t : Bool) → eqb count 1 ≡ t → product m slots (mapAt m slots (cond t d (count * (d * d))) RightMul d count b) input slot ≡ formula m RightMul d count b input s e
       by true q = narrow (eqb-true count 1 q)
       by false q = whole RightMul
   productMap-product LeftMul = whole LeftMul
@@ -150,10 +136,10 @@ module _ (slots d count : ℕ) (b input : List ℕ) (v : d * d ∣ slots) (n : 1
   productMap-product LeftJkls = whole LeftJkls
 
 -- the same at each slot
-pub productMap-at : (slots d count : ℕ) (b input : List ℕ) → d * d ∣ slots → 1 ≤ count → 1 ≤ d → (t : ℕ) → t < slots → (p : Product) → product modulus slots (productMap slots d count p b) input t ≡ formula p d count b input (slotOf d t) (entryOf d t)
-productMap-at slots d count b input v n h t k p =
-    ap (product modulus slots (productMap slots d count p b) input) (sym (slot-is d t h))
-    ∙ productMap-product slots d count b input v n (slotOf d t) (entryOf d t) (entry-inside d t h) (slot-inside d t h slots v k) p
+pub productMap-at : (m slots d count : ℕ) (b input : List ℕ) → d * d ∣ slots → 1 ≤ count → 1 ≤ d → (t : ℕ) → t < slots → (p : Product) → product m slots (productMap m slots d count p b) input t ≡ formula m p d count b input (slotOf d t) (entryOf d t)
+productMap-at m slots d count b input v n h t k p =
+    ap (product m slots (productMap m slots d count p b) input) (sym (slot-is d t h))
+    ∙ productMap-product m slots d count b input v n (slotOf d t) (entryOf d t) (entry-inside d t h) (slot-inside d t h slots v k) p
 
 -- ---- the maps are well formed
 
@@ -178,14 +164,14 @@ module _ (slots d count : ℕ) (h : 1 ≤ d) (n : 1 ≤ count) (v : count * (d *
   period-fits RightJkls = fits-whole
   period-fits LeftJkls = fits-whole
 
-  pub productMap-formed : (p : Product) (b : List ℕ) → FormedMap slots (productMap slots d count p b)
+  pub productMap-formed : (m : ℕ) (p : Product) (b : List ℕ) → FormedMap slots (productMap m slots d count p b)
   unfolding productMap
-  productMap-formed p b = slotMap-formed slots (periodOf p d count) (join (outputTerms p d count b) (tabulate (periodOf p d count) (λ t. t))) (period-fits p .0) (period-fits p .1)
+  productMap-formed m p b = slotMap-formed m slots (periodOf p d count) (join (outputTerms p d count b) (tabulate (periodOf p d count) (λ t. t))) (period-fits p .0) (period-fits p .1)
 
 -- every diagonal is stored at the period
-pub productMap-period : (slots d count : ℕ) (p : Product) (b : List ℕ) → Each (λ x. length (x .values) ≡ periodOf p d count) (productMap slots d count p b)
+pub productMap-period : (m slots d count : ℕ) (p : Product) (b : List ℕ) → Each (λ x. length (x .values) ≡ periodOf p d count) (productMap m slots d count p b)
 unfolding productMap
-productMap-period slots d count p b = slotMap-period slots (periodOf p d count) (join (outputTerms p d count b) (tabulate (periodOf p d count) (λ t. t)))
+productMap-period m slots d count p b = slotMap-period m slots (periodOf p d count) (join (outputTerms p d count b) (tabulate (periodOf p d count) (λ t. t)))
 
 -- ---- the terms stay in their period
 

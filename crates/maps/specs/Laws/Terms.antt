@@ -9,7 +9,7 @@ use native.Mathlib.Omega.{arith}
 use borrow.Author.Tests.{eq-eqb, ne-eqb, eqb-true, eqb-false}
 use lib.Dec.{eqb}
 use lib.ListN.{getD}
-use Rattle.ring.specs.Slots.{modulus, mulm}
+use Rattle.ring.specs.Slots.{mulm}
 use Rattle.ring.specs.Lists.{sumBy, join, Each}
 use Rattle.ring.specs.Vectors.{tabulate}
 use Rattle.ring.specs.Laws.Slots.{addm-comm}
@@ -61,10 +61,10 @@ pub record InPeriod (period : ℕ) (x : Term) : Type 0 where
   pub i-low : x .i < period
   pub j-low : x .j < period
 
-module _ (slots period : ℕ) (g : ℕ → List Term) (own : (t : ℕ) → Each (λ x. x .i ≡ t) (g t)) (input : List ℕ) (i q : ℕ) where
+module _ (m slots period : ℕ) (g : ℕ → List Term) (own : (t : ℕ) → Each (λ x. x .i ≡ t) (g t)) (input : List ℕ) (i q : ℕ) where
   -- what a term of output i adds
   abbrev pub adds : Term → ℕ
-  adds t = mulm modulus (t .w) (getD input ((t .j + q * period) % slots) 0)
+  adds t = mulm m (t .w) (getD input ((t .j + q * period) % slots) 0)
 
   abbrev terms : List Term
   terms = join g (tabulate period (λ t. t))
@@ -73,23 +73,23 @@ module _ (slots period : ℕ) (g : ℕ → List Term) (own : (t : ℕ) → Each 
   part t = cond (eqb (t .i) i) (adds t) 0
 
   -- the terms of an output count there alone
-  of-output : (t : ℕ) (b : Bool) → eqb i t ≡ b → sumBy modulus part (g t) ≡ cond b (sumBy modulus adds (g i)) 0
+  of-output : (t : ℕ) (b : Bool) → eqb i t ≡ b → sumBy m part (g t) ≡ cond b (sumBy m adds (g i)) 0
   of-output t true e =
-      sumBy-each modulus part adds (g t)
+      sumBy-each m part adds (g t)
       (each-then (λ x (h : x .i ≡ t). ap (λ (b : Bool). cond b (adds x) 0) (eq-eqb (x .i) i (h ∙ sym (eqb-true i t e)))) (g t) (own t))
-      ∙ ap (λ (x : ℕ). sumBy modulus adds (g x)) (sym (eqb-true i t e))
+      ∙ ap (λ (x : ℕ). sumBy m adds (g x)) (sym (eqb-true i t e))
   of-output t false e =
-      sumBy-each modulus part (λ x. 0) (g t)
+      sumBy-each m part (λ x. 0) (g t)
       (each-then (λ x (h : x .i ≡ t). ap (λ (b : Bool). cond b (adds x) 0) (ne-eqb (x .i) i (λ k. eqb-false i t e (sym k ∙ h)))) (g t) (own t))
-      ∙ sumBy-zero modulus (g t)
+      ∙ sumBy-zero m (g t)
 
-  slotSum-own : i < period → slotSum slots period terms input i q ≡ sumBy modulus adds (g i)
+  slotSum-own : i < period → slotSum m slots period terms input i q ≡ sumBy m adds (g i)
   unfolding slotSum
   slotSum-own l =
-      sumBy-join modulus g part (tabulate period (λ t. t))
-      ∙ sum-same modulus period (λ t. sumBy modulus part (g t)) (λ t. cond (eqb i t) (sumBy modulus adds (g i)) 0) (λ t h. of-output t (eqb i t) refl)
-      ∙ sum-one modulus i (sumBy modulus adds (g i)) period l
-      ∙ sumBy-mod modulus adds (g i)
+      sumBy-join m g part (tabulate period (λ t. t))
+      ∙ sum-same m period (λ t. sumBy m part (g t)) (λ t. cond (eqb i t) (sumBy m adds (g i)) 0) (λ t h. of-output t (eqb i t) refl)
+      ∙ sum-one m i (sumBy m adds (g i)) period l
+      ∙ sumBy-mod m adds (g i)
 
-  pub own-product : 0 < slots → i < period → product modulus slots (slotMap slots period terms) input (i + q * period) ≡ sumBy modulus adds (g i)
-  own-product p l = slotMap-product slots period terms input i q p l ∙ slotSum-own l
+  pub own-product : 0 < slots → i < period → product m slots (slotMap m slots period terms) input (i + q * period) ≡ sumBy m adds (g i)
+  own-product p l = slotMap-product m slots period terms input i q p l ∙ slotSum-own l

@@ -14,7 +14,7 @@ use Rattle.ring.specs.Refusals.{firstOf, outside}
 use Rattle.ring.specs.Laws.Refusals.{first-refused, first-later, either, inside}
 use Rattle.ring.specs.Laws.Divisors.{divides-dvd}
 use Rattle.maps.specs.Calls.{noTiles, tileRefusals}
-use Rattle.maps.specs.TileSteps.{Tiles, Tiling, TilesJudged}
+use Rattle.maps.specs.Steps.Tiles.{Tiles, Tiling, TilesJudged}
 
 -- ---- sides and squares
 

@@ -1,41 +1,44 @@
 -- `replay::replay` meets its contract. Assumes nothing.
 use borrow.Author.Needs.{needs}
-use mathlib.Core.Path.{_≡_}
-use Prim.Native.Nat.{ℕ, _≤_}
-use native.Mathlib.Omega.{arith}
-use lib.ListN.{length, length-replicate, length-take}
+use Prim.Native.Nat.{_-_}
 use Rattle.replay.proofs.replay.Statement.{statement}
 use Rattle.replay.proofs.replay.Tie as tie
 
 abbrev Inv-loop : tie.InvT-loop
-Inv-loop text words₀ at₀ turns₀ words at turns = (at ≤ length text) × (length words ≡ 4096)
+Inv-loop numbers at₀ turn₀ at turn = Unit
 
 abbrev μ-loop : tie.MeasureT-loop
-μ-loop text words₀ at₀ turns₀ words at turns = turns
+μ-loop numbers at₀ turn₀ at turn = 131072 - turn
 
 loop-holds : tie.Need-loop-holds Inv-loop μ-loop
-loop-holds c = (search needs, length-replicate {A = ℕ} 4096 0)
+loop-holds c = search needs
 
-slice-aggregate-call-from : tie.Need-slice-aggregate-call-from Inv-loop μ-loop
-slice-aggregate-call-from c = search needs
+rest-requires : tie.Need-rest-requires Inv-loop μ-loop
+rest-requires c κs = search needs
 
-call-from-requires : tie.Need-call-from-requires Inv-loop μ-loop
-call-from-requires c κs = search needs
+head-of-requires : tie.Need-head-of-requires Inv-loop μ-loop
+head-of-requires c κs = search needs
 
 returns : tie.Need-returns Inv-loop μ-loop
 returns c = search needs
 
-array-share-prefix-words : tie.Need-array-share-prefix-words Inv-loop μ-loop
-array-share-prefix-words c = search needs
+rest-requires-2 : tie.Need-rest-requires-2 Inv-loop μ-loop
+rest-requires-2 c κs = search needs
 
-slice-aggregate-show-call : tie.Need-slice-aggregate-show-call Inv-loop μ-loop
-slice-aggregate-show-call c = let d = c .before .before .before in simp length-take (omega (arith, d .call-from .kept, d .call-from .ensures))
+front-requires : tie.Need-front-requires Inv-loop μ-loop
+front-requires c κs = search needs
 
 show-call-requires : tie.Need-show-call-requires Inv-loop μ-loop
 show-call-requires c κs = search needs
 
-sub-turns : tie.Need-sub-turns Inv-loop μ-loop
-sub-turns c = search needs
+wrapping-add-usize-requires : tie.Need-wrapping-add-usize-requires Inv-loop μ-loop
+wrapping-add-usize-requires c κs = search needs
+
+wrapping-add-usize-requires-2 : tie.Need-wrapping-add-usize-requires-2 Inv-loop μ-loop
+wrapping-add-usize-requires-2 c κs = search needs
+
+add-turn : tie.Need-add-turn Inv-loop μ-loop
+add-turn c = search needs
 
 loop-less : tie.Need-loop-less Inv-loop μ-loop
 loop-less c = search needs
@@ -53,13 +56,15 @@ replay-spec =
     Inv-loop
     μ-loop
     loop-holds
-    slice-aggregate-call-from
-    call-from-requires
+    rest-requires
+    head-of-requires
     returns
-    array-share-prefix-words
-    slice-aggregate-show-call
+    rest-requires-2
+    front-requires
     show-call-requires
-    sub-turns
+    wrapping-add-usize-requires
+    wrapping-add-usize-requires-2
+    add-turn
     loop-less
     loop-again
     returns-2)

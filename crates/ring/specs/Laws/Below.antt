@@ -3,7 +3,7 @@
 -- Assumes nothing.
 use Prim.Native.Nat.{ℕ, zero, suc, _+_, _%_, _≤_, _<_, zero-le}
 use mathlib.Core.Path.{_≡_, refl, sym, ap, _∙_}
-use mathlib.Core.Bool.{Bool, true, false, cond}
+use mathlib.Core.Bool.{Bool, true, false, cond, _||_}
 use mathlib.Core.List.{List, [], _∷_, _++_, append-nil}
 use mathlib.Core.Logic.{_⊎_, inl, inr, ⊎-elim}
 use native.Mathlib.Nat.{eq-or-lt-of-le, not-suc-le-zero, le-refl, le-of-eq, zero-add, add-zero, zero-mod, mod-mod}
@@ -115,6 +115,19 @@ unfolding below
 below-ext p q zero h = refl
 below-ext p q (suc n) h = rw (below-ext p q n (λ v l. h v (omega arith)), h n (le-refl (suc n)))
 
+-- one number more passes
+pub length-below-with : (p : ℕ → Bool) (k n : ℕ) → k < n → p k ≡ false → length (below (λ v. eqb k v || p v) n) ≡ suc (length (below p n))
+unfolding below
+length-below-with p k zero l e = absurd (not-suc-le-zero l)
+length-below-with p k (suc n) l e =
+    ⊎-elim
+    (λ (q : suc k ≡ suc n).
+    let r : k ≡ n = omega arith in
+    let t : p n ≡ false = rw r at e in
+    rw (below-ext (λ v. eqb k v || p v) p n (λ v m. rw (ne-eqb k v (λ x. omega arith))), eq-eqb k n r, t) (simp length-append (omega arith)))
+    (λ (m : suc k < suc n). rw (ne-eqb k n (λ x. omega arith)) (simp length-append (omega (arith, length-below-with p k n (omega arith) e))))
+    (eq-or-lt-of-le l)
+
 -- ---- sums of terms that are 0 but at one number
 
 module _ (m : ℕ) (p : ℕ → Bool) (k x : ℕ) where
@@ -144,7 +157,12 @@ module _ (m : ℕ) (p : ℕ → Bool) (k x : ℕ) where
       (λ (h : suc k < suc n). rw (sum-below-one n (omega arith) e, sum-only (p n) n (λ q. omega arith)) (simp (add-zero, mod-mod)))
       (eq-or-lt-of-le l)
 
--- ---- all numbers below a bound
+-- ---- all numbers below a bound, and none
+
+pub below-none : (n : ℕ) → below (λ v. false) n ≡ []
+unfolding below
+below-none zero = refl
+below-none (suc n) = append-nil (below (λ v. false) n) ∙ below-none n
 
 pub below-all : (n : ℕ) → below (λ v. true) n ≡ tabulate n (λ v. v)
 unfolding below

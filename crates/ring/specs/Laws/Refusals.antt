@@ -38,6 +38,23 @@ pub first-later : (cs ds : List (Bool × ℕ)) → Each (λ c. c .1 ≡ 0 → �
 first-later [] ds p h = refl
 first-later (c ∷ cs) ds p h = pick-later (c .0) (c .1) (firstOf cs) (firstOf (cs ++ ds)) (firstOf ds) (p .0) (first-later cs ds (p .1)) h
 
+pick-same : (b : Bool) (n x y : ℕ) → x ≡ y → pick b n x ≡ pick b n y
+pick-same b n x y e = rw e
+
+-- none of the further ones applies
+pub first-alone : (cs ds : List (Bool × ℕ)) → firstOf ds ≡ 0 → firstOf (cs ++ ds) ≡ firstOf cs
+first-alone [] ds h = h
+first-alone (c ∷ cs) ds h = pick-same (c .0) (c .1) (firstOf (cs ++ ds)) (firstOf cs) (first-alone cs ds h)
+
+pick-both : (b : Bool) (n x y z : ℕ) → (n ≡ 0 → ⊥) → (y ≡ 0 → (x ≡ 0) × (z ≡ 0)) → pick b n y ≡ 0 → (pick b n x ≡ 0) × (z ≡ 0)
+pick-both true n x y z p f h = absurd (p h)
+pick-both false n x y z p f h = f h
+
+-- none of all applies: none of the first, none of the further ones
+pub none-of-both : (cs ds : List (Bool × ℕ)) → Each (λ c. c .1 ≡ 0 → ⊥) cs → firstOf (cs ++ ds) ≡ 0 → (firstOf cs ≡ 0) × (firstOf ds ≡ 0)
+none-of-both [] ds n h = (refl, h)
+none-of-both (c ∷ cs) ds n h = pick-both (c .0) (c .1) (firstOf cs) (firstOf (cs ++ ds)) (firstOf ds) (n .0) (none-of-both cs ds (n .1)) h
+
 -- the first does not apply, nor a later one
 pub pick-none : (b : Bool) (n x : ℕ) → (n ≡ 0 → ⊥) → pick b n x ≡ 0 → (b ≡ false) × (x ≡ 0)
 pick-none true n x p h = absurd (p h)

@@ -1,4 +1,5 @@
--- Slot arithmetic modulo any m is that of a commutative ring. With m = 0 the remainder is the number itself.
+-- Sums and products modulo any m are associative, commutative and distributive, with 0 and 1. With m = 0 the remainder is
+-- the number itself.
 -- Assumes nothing.
 use mathlib.Core.Path.{_≡_, sym, ap, _∙_}
 use Prim.Native.Nat.{ℕ, _+_, _*_, _/_, _%_, _<_}

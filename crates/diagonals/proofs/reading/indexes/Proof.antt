@@ -15,7 +15,7 @@ returns-2 : tie.Need-returns-2
 returns-2 c = indexes-no-room (c .before .before .map-refusal .ensures) (c .before .if1 .left) (omega (arith, c .if2 .taken))
 
 write-indexes-requires : tie.Need-write-indexes-requires
-write-indexes-requires c κs = (c .before .before .before .map-refusal .ensures .formed (c .before .before .if1 .left) .pairs-inside, omega (arith, c .before .if2 .left))
+write-indexes-requires c κs = search needs
 
 same-length : tie.Need-same-length
 same-length c = search needs

@@ -1,10 +1,9 @@
 -- `diagonals::reading::write_indexes` meets its contract: the loop keeps `Filling`. Assumes nothing.
-use denote.Ref.{now}
-use mathlib.Core.Path.{_≡_, refl, ap, _∙_}
+use mathlib.Core.Path.{_≡_}
 use borrow.Author.Needs.{needs}
-use Prim.Native.Nat.{ℕ, _-_, _≤_}
+use Prim.Native.Nat.{_-_, _≤_}
 use native.Mathlib.Omega.{arith}
-use Rattle.ring.specs.Vectors.{Filling, filled}
+use Rattle.ring.specs.Vectors.{Filling}
 use Rattle.ring.specs.Laws.Vectors.{filling-none, filling-more}
 use Rattle.diagonals.specs.Maps.{offsetAt}
 use Rattle.diagonals.proofs.reading.write_indexes.Statement.{statement}
@@ -19,17 +18,11 @@ abbrev μ-loop : tie.MeasureT-loop
 loop-holds : tie.Need-loop-holds Inv-loop μ-loop
 loop-holds c = (filling-none _ _, omega arith)
 
+offset-at-requires : tie.Need-offset-at-requires Inv-loop μ-loop
+offset-at-requires c κs = search needs
+
 mul-out : tie.Need-mul-out Inv-loop μ-loop
 mul-out c = search needs
-
-mul-out-2 : tie.Need-mul-out-2 Inv-loop μ-loop
-mul-out-2 c = search needs
-
-shared-slice-read-out : tie.Need-shared-slice-read-out Inv-loop μ-loop
-shared-slice-read-out c = search needs
-
-mul-out-3 : tie.Need-mul-out-3 Inv-loop μ-loop
-mul-out-3 c = search needs
 
 slice-write-out : tie.Need-slice-write-out Inv-loop μ-loop
 slice-write-out c = search needs
@@ -41,13 +34,13 @@ loop-less : tie.Need-loop-less Inv-loop μ-loop
 loop-less c = search needs
 
 loop-again : tie.Need-loop-again Inv-loop μ-loop
-loop-again c = (filling-more (c .before .before .loop .inv .0) (search needs) refl, omega arith)
+loop-again c = (filling-more (c .before .before .loop .inv .0) (search needs) (c .offset-at .ensures), omega arith)
 
 same-length : tie.Need-same-length Inv-loop μ-loop
 same-length c = search needs
 
 returns : tie.Need-returns Inv-loop μ-loop
-returns c = let e : c .before .loop .i ≡ c .before .before .args .count = omega arith in c .before .loop .inv .0 .so-far ∙ ap (λ (j : ℕ). filled (offsetAt (now (c .before .before .args .pairs))) j (now (c .before .before .args .out))) e
+returns c = let e : c .before .loop .i ≡ c .before .before .before .before .args .count = omega arith in rw (← e) (c .before .loop .inv .0 .so-far)
 
 pub write-indexes-spec : {M : Type 1} → statement M
 write-indexes-spec =
@@ -56,10 +49,8 @@ write-indexes-spec =
     Inv-loop
     μ-loop
     loop-holds
+    offset-at-requires
     mul-out
-    mul-out-2
-    shared-slice-read-out
-    mul-out-3
     slice-write-out
     add-i
     loop-less

@@ -15,7 +15,7 @@ use Rattle.ring.specs.Residues.{residueOf}
 use Rattle.ring.specs.Rotations.{rotated}
 use Rattle.ring.specs.Laws.Vectors.{tabulate-cong}
 use Rattle.ring.specs.Laws.Residues.{residue-lt, residue-add}
-use Rattle.diagonals.specs.Steps.{spin}
+use Rattle.diagonals.specs.Steps.Writing.{spin}
 use borrow.Author.Needs.{needs}
 use Rattle.diagonals.proofs.rotation.rotate_slots_into.Statement.{statement}
 use Rattle.diagonals.proofs.rotation.rotate_slots_into.Tie as tie

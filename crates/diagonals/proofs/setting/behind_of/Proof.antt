@@ -1,12 +1,13 @@
 -- `diagonals::setting::behind_of` meets its contract. Assumes nothing.
-use mathlib.Core.Path.{_≡_, sym}
+use mathlib.Core.Path.{_≡_, sym, _∙_}
 use native.Mathlib.Omega.{arith}
 use Prim.Native.Nat.{ℕ, _+_, _<_}
 use borrow.Author.Needs.{needs}
 use mathlib.Core.List.{List}
 use borrow.Author.Count.{below-more}
 use Rattle.diagonals.specs.Maps.{offsetAt, lengthAt}
-use Rattle.diagonals.specs.Steps.{InOrder, Placed}
+use Rattle.diagonals.specs.Steps.Setting.{InOrder}
+use Rattle.diagonals.specs.Steps.Reading.{Placed}
 use denote.Ref.{now}
 use Rattle.diagonals.specs.Laws.Maps.{start-more, end-within}
 use Rattle.diagonals.proofs.setting.behind_of.Statement.{statement}
@@ -30,14 +31,8 @@ module _ {count : ℕ} {pairs : List ℕ} {k index start : ℕ} (o : InOrder cou
 returns : tie.Need-returns
 returns c = absent (c .before .before .pre .0) (c .before .before .pre .1) (λ l. omega arith)
 
-mul-at : tie.Need-mul-at
-mul-at c = search needs
-
-mul-if2 : tie.Need-mul-if2
-mul-if2 c = search needs
-
-shared-slice-read-if2 : tie.Need-shared-slice-read-if2
-shared-slice-read-if2 c = search needs
+offset-at-requires : tie.Need-offset-at-requires
+offset-at-requires c κs = search needs
 
 returns-2 : tie.Need-returns-2
 returns-2 c = let s = c .before .before .before .before in absent (s .pre .0) (s .pre .1) (λ l. omega (arith, s .pre .1 .here l))
@@ -45,37 +40,27 @@ returns-2 c = let s = c .before .before .before .before in absent (s .pre .0) (s
 add-t8 : tie.Need-add-t8
 add-t8 c = search needs
 
-add-wide : tie.Need-add-wide
-add-wide c = search needs
-
-mul-wide : tie.Need-mul-wide
-mul-wide c = search needs
-
-shared-slice-read-wide : tie.Need-shared-slice-read-wide
-shared-slice-read-wide c = search needs
+length-at-requires : tie.Need-length-at-requires
+length-at-requires c κs = search needs
 
 wide-requires : tie.Need-wide-requires
 wide-requires c κs = search needs
 
-add-t15 : tie.Need-add-t15
-add-t15 c = let s = c .before .before .before .before .before .before in omega (arith, end-within (now (s .args .pairs)) (s .args .index) (s .args .count) (omega arith), s .pre .1 .start-is, s .pre .0 .small, c .wide .ensures)
+add-t10 : tie.Need-add-t10
+add-t10 c = let s = c .before .before .before .before .before .before in omega (arith, end-within (now (s .args .pairs)) (s .args .index) (s .args .count) (omega arith), s .pre .1 .start-is, s .pre .0 .small, c .wide .ensures, c .before .length-at .ensures)
 
 returns-3 : tie.Need-returns-3
-returns-3 c = let s = c .before .before .before .before .before .before in present (s .pre .0) (s .pre .1) (omega arith) (omega arith) (c .wide .ensures)
+returns-3 c = let s = c .before .before .before .before .before .before in present (s .pre .0) (s .pre .1) (omega arith) (omega arith) (c .wide .ensures ∙ c .before .length-at .ensures)
 
 pub behind-of-spec : {M : Type 1} → statement M
 behind-of-spec =
     tie.close
     (tie.spec
     returns
-    mul-at
-    mul-if2
-    shared-slice-read-if2
+    offset-at-requires
     returns-2
     add-t8
-    add-wide
-    mul-wide
-    shared-slice-read-wide
+    length-at-requires
     wide-requires
-    add-t15
+    add-t10
     returns-3)

@@ -15,13 +15,13 @@ end-of-requires : tie.Need-end-of-requires
 end-of-requires c κs = search needs
 
 add-t12 : tie.Need-add-t12
-add-t12 c = search needs
+add-t12 c = omega (arith, c .before .before .place-of .ensures .inside, c .before .before .before .before .pre .0 .few)
 
 sub-t13 : tie.Need-sub-t13
 sub-t13 c = search needs
 
 add-t14 : tie.Need-add-t14
-add-t14 c = search needs
+add-t14 c = omega (arith, c .before .before .place-of .ensures .inside, c .before .before .before .before .pre .0 .few)
 
 add-t15 : tie.Need-add-t15
 add-t15 c = omega (arith, start-within (c .before .before .place-of .ensures))

@@ -1,5 +1,5 @@
 -- `diagonals::setting::end_of` meets its contract. Assumes nothing.
-use mathlib.Core.Path.{_≡_, sym}
+use mathlib.Core.Path.{_≡_, sym, _∙_}
 use native.Mathlib.Omega.{arith}
 use Prim.Native.Nat.{ℕ, _+_, _-_, _≤_, _<_}
 use borrow.Author.Needs.{needs}
@@ -10,6 +10,7 @@ use Rattle.diagonals.proofs.setting.end_of.Statement.{statement}
 use Rattle.diagonals.proofs.setting.end_of.Tie as tie
 
 -- the lengths of the pairs before i are added up
+
 record Adding (count : ℕ) (pairs : List ℕ) (end i : ℕ) : Type 0 where
   room : i ≤ count
   end-is : end ≡ startAt pairs i
@@ -30,23 +31,14 @@ abbrev μ-loop : tie.MeasureT-loop
 loop-holds : tie.Need-loop-holds Inv-loop μ-loop
 loop-holds c = record { room = search needs; end-is = search needs }
 
-mul-wide : tie.Need-mul-wide Inv-loop μ-loop
-mul-wide c = search needs
-
-add-wide : tie.Need-add-wide Inv-loop μ-loop
-add-wide c = search needs
-
-mul-wide-2 : tie.Need-mul-wide-2 Inv-loop μ-loop
-mul-wide-2 c = search needs
-
-shared-slice-read-wide : tie.Need-shared-slice-read-wide Inv-loop μ-loop
-shared-slice-read-wide c = search needs
+length-at-requires : tie.Need-length-at-requires Inv-loop μ-loop
+length-at-requires c κs = search needs
 
 wide-requires : tie.Need-wide-requires Inv-loop μ-loop
 wide-requires c κs = search needs
 
 add-end : tie.Need-add-end Inv-loop μ-loop
-add-end c = omega (arith, fits (c .before .before .before .loop .inv) (c .before .before .loop-test .taken) (c .wide .ensures), c .before .before .before .before .before .pre)
+add-end c = omega (arith, fits (c .before .before .before .loop .inv) (c .before .before .loop-test .taken) (c .wide .ensures ∙ c .before .length-at .ensures), c .before .before .before .before .before .pre)
 
 add-i : tie.Need-add-i Inv-loop μ-loop
 add-i c = search needs
@@ -55,7 +47,7 @@ loop-less : tie.Need-loop-less Inv-loop μ-loop
 loop-less c = search needs
 
 loop-again : tie.Need-loop-again Inv-loop μ-loop
-loop-again c = more (c .before .before .before .loop .inv) (c .before .before .loop-test .taken) (c .wide .ensures)
+loop-again c = more (c .before .before .before .loop .inv) (c .before .before .loop-test .taken) (c .wide .ensures ∙ c .before .length-at .ensures)
 
 returns : tie.Need-returns Inv-loop μ-loop
 returns c = let e : c .before .loop .i ≡ c .before .before .before .args .count = omega arith in rw (← e) (c .before .loop .inv .end-is)
@@ -67,10 +59,7 @@ end-of-spec =
     Inv-loop
     μ-loop
     loop-holds
-    mul-wide
-    add-wide
-    mul-wide-2
-    shared-slice-read-wide
+    length-at-requires
     wide-requires
     add-end
     add-i

@@ -1,5 +1,5 @@
 -- `diagonals::setting::set` meets its contract. Assumes nothing.
-use mathlib.Core.Path.{sym, ap, _∙_}
+use mathlib.Core.Path.{sym, ap, _∙_, refl}
 use native.Mathlib.Omega.{arith}
 use native.Mathlib.Nat.{le-of-dvd}
 use Prim.Native.Nat.{_≤_}
@@ -11,12 +11,13 @@ use lib.ListN.{length}
 use Rattle.ring.specs.Residues.{residueOf}
 use Rattle.ring.specs.Laws.Refusals.{inside}
 use Rattle.diagonals.specs.Maps.{WellFormed}
-use Rattle.diagonals.specs.Laws.Changes.{place-order, place-next, pairs-fit, values-fit, in-order, Decided, decided, refused-map, refused-period, refused-pairs, refused-values, accepted}
+use Rattle.diagonals.specs.Laws.Changes.{place-order, place-next, pairs-fit, values-fit, in-order, Decided, decided, refused-map, refused-period, refused-room, accepted}
 use borrow.Author.Needs.{needs}
 use Rattle.diagonals.proofs.setting.set.Statement.{statement}
 use Rattle.diagonals.proofs.setting.set.Tie as tie
 
 -- past the refusals of the map
+
 slots-range : (c : tie.Else1) → let slots = c .before .before .before .before .before .before .before .args .slots in (1 ≤ slots) × (slots ≤ 65536)
 slots-range c = inside _ (c .before .map-refusal .ensures .inside (c .if1 .left))
 
@@ -24,12 +25,14 @@ well : (c : tie.Else1) → let a = c .before .before .before .before .before .be
 well c = c .before .map-refusal .ensures .formed (c .if1 .left)
 
 -- a divisor of slots is small
+
 length-range : (c : tie.Else2) → length (now (c .before .before .before .before .before .before .before .before .before .args .new)) ≤ 65536
 length-range c =
     let s = slots-range (c .before .before) in
     omega (arith, s .1, le-of-dvd (s .0) (c .before .is-no-period .ensures .divisor (c .if2 .left) .divides))
 
 -- the change is known, and the room decides
+
 ready : (c : tie.After-change-of) → let a = c .before .before .before .before .before .before .before .before .before .before .before .before .args in Decided (a .slots) (a .count) (now (a .pairs)) (now (a .values)) (a .index) (now (a .new)) (c .before .before .residue .result) (c .change-of .result)
 ready c =
     let s = c .before .before .before .before .before .before .before .before .before .before .before .before in
@@ -69,10 +72,10 @@ residue-requires : tie.Need-residue-requires
 residue-requires c κs = search needs
 
 change-of-requires : tie.Need-change-of-requires
-change-of-requires c κs = (in-order (well (c .before .before .before .before)) (omega (arith, c .before .before .before .before .before .before .before .before .before .before .before .good)), length-range (c .before .before))
+change-of-requires c κs = (in-order (well (c .before .before .before .before)) (slots-range (c .before .before .before .before) .1) (omega (arith, c .before .before .before .before .before .before .before .before .before .before .before .good)), length-range (c .before .before))
 
-mul-if3 : tie.Need-mul-if3
-mul-if3 c = let d = ready (c .before) in omega (arith, place-order (d .change .here) (d .change .above), d .change .pairs-is, d .change .above .inside, d .formed .pairs-inside, c .before .before .before .before .before .before .before .before .before .before .before .before .before .good)
+room-refusal-requires : tie.Need-room-refusal-requires
+room-refusal-requires c κs = search needs
 
 same-length-5 : tie.Need-same-length-5
 same-length-5 c = search needs
@@ -81,7 +84,26 @@ same-length-6 : tie.Need-same-length-6
 same-length-6 c = search needs
 
 returns-3 : tie.Need-returns-3
-returns-3 c = refused-pairs (ready (c .before .before)) (c .if3 .taken)
+returns-3 c = refused-room (ready (c .before .before)) (c .before .room-refusal .ensures) (c .if3 .taken)
+
+cast-write-pair : tie.Need-cast-write-pair
+cast-write-pair c = omega (arith, length-range (c .before .before .before .before .before .before))
+
+write-pair-requires : tie.Need-write-pair-requires
+write-pair-requires c κs =
+    let d = ready (c .before .before .before) in
+    let r = c .before .before .room-refusal .ensures in
+    record {
+      inside = pairs-fit (d .formed) (d .change) (r .pairs-fit (c .before .if3 .left));
+      order = place-order (d .change .here) (d .change .above);
+      next = place-next (d .change .here) (d .change .above) (d .formed .rising);
+      end = d .change .above .inside;
+    }
+
+splice-requires : tie.Need-splice-requires
+splice-requires c κs =
+    let d = ready (c .before .before .before .before .before .before .before) in
+    values-fit (d .formed) (d .change) (c .before .before .before .before .before .before .room-refusal .ensures .values-fit (c .before .before .before .before .before .if3 .left))
 
 same-length-7 : tie.Need-same-length-7
 same-length-7 c = search needs
@@ -90,25 +112,9 @@ same-length-8 : tie.Need-same-length-8
 same-length-8 c = search needs
 
 returns-4 : tie.Need-returns-4
-returns-4 c = refused-values (ready (c .before .before .before .before)) (c .if4 .taken)
-
-cast-write-pair : tie.Need-cast-write-pair
-cast-write-pair c = omega (arith, length-range (c .before .before .before .before .before .before .before .before))
-
-write-pair-requires : tie.Need-write-pair-requires
-write-pair-requires c κs = let d = ready (c .before .before .before .before .before) in (pairs-fit (d .formed) (d .change) (c .before .before .before .if3 .left), (place-order (d .change .here) (d .change .above), place-next (d .change .here) (d .change .above) (d .formed .rising)))
-
-splice-requires : tie.Need-splice-requires
-splice-requires c κs = let d = ready (c .before .before .before .before .before .before .before .before .before) in values-fit (d .formed) (d .change) (c .before .before .before .before .before .if4 .left)
-
-same-length-9 : tie.Need-same-length-9
-same-length-9 c = search needs
-
-same-length-10 : tie.Need-same-length-10
-same-length-10 c = search needs
-
-returns-5 : tie.Need-returns-5
-returns-5 c = accepted (ready (c .before .before .before .before .before .before .before .before .before .before .before .before)) (c .before .before .before .before .before .before .before .before .before .before .if3 .left) (c .before .before .before .before .before .before .before .before .if4 .left) (c .before .before .before .before .before .before .write-pair .ensures) (c .before .before .splice .ensures)
+returns-4 c =
+    let k = c .before .before .before .before .before .before .before .before in
+    accepted (ready (k .before .before)) (k .before .room-refusal .ensures) (k .if3 .left) (c .before .before .before .before .before .before .write-pair .ensures .is (record { offset = _; values = _ }) refl refl) (c .before .before .splice .ensures)
 
 pub set-spec : {M : Type 1} → statement M
 set-spec =
@@ -125,16 +131,13 @@ set-spec =
     cast-residue
     residue-requires
     change-of-requires
-    mul-if3
+    room-refusal-requires
     same-length-5
     same-length-6
     returns-3
-    same-length-7
-    same-length-8
-    returns-4
     cast-write-pair
     write-pair-requires
     splice-requires
-    same-length-9
-    same-length-10
-    returns-5)
+    same-length-7
+    same-length-8
+    returns-4)

@@ -17,27 +17,21 @@ Inv-loop slots count pairs values period₀ start₀ i₀ period start i = Foldi
 abbrev μ-loop : tie.MeasureT-loop
 μ-loop slots count pairs values period₀ start₀ i₀ period start i = count - i
 
+-- where the part of values ends
+end-in : (c : tie.After-wide Inv-loop μ-loop) → c .before .before .before .loop .start + c .wide .result ≤ length (now (c .before .before .before .before .before .before .args .values))
+end-in c = rw (c .wide .ensures, c .before .length-at .ensures) (folding-end (c .before .before .before .before .before .before .pre .1) (c .before .before .before .loop .inv) (c .before .before .loop-test .taken))
+
+is-smallest : (c : tie.After-smallest Inv-loop μ-loop) → c .smallest .result ≡ smallestAt (now (c .before .before .before .before .before .before .before .before .args .pairs)) (now (c .before .before .before .before .before .before .before .before .args .values)) (c .before .before .before .before .before .loop .i)
+is-smallest c = c .smallest .ensures ∙ ap minPeriod (part-is (c .before .before .before .before .before .before .before .before .pre .1) (c .before .before .before .before .before .loop .inv) (c .before .before .before .before .loop-test .taken) (add-sub-cancel-left (c .before .before .before .before .before .loop .start) (c .before .before .wide .result) ∙ c .before .before .wide .ensures ∙ c .before .before .before .length-at .ensures))
+
 loop-holds : tie.Need-loop-holds Inv-loop μ-loop
 loop-holds c = folding-none _ _ _ _
 
-mul-at : tie.Need-mul-at Inv-loop μ-loop
-mul-at c = search needs
-
-add-wide : tie.Need-add-wide Inv-loop μ-loop
-add-wide c = search needs
-
-mul-wide : tie.Need-mul-wide Inv-loop μ-loop
-mul-wide c = search needs
-
-shared-slice-read-wide : tie.Need-shared-slice-read-wide Inv-loop μ-loop
-shared-slice-read-wide c = search needs
+length-at-requires : tie.Need-length-at-requires Inv-loop μ-loop
+length-at-requires c κs = search needs
 
 wide-requires : tie.Need-wide-requires Inv-loop μ-loop
 wide-requires c κs = search needs
-
--- where the part of values ends
-end-in : (c : tie.After-wide Inv-loop μ-loop) → c .before .before .before .loop .start + c .wide .result ≤ length (now (c .before .before .before .before .before .before .args .values))
-end-in c = rw (c .wide .ensures) (folding-end (c .before .before .before .before .before .before .pre .1) (c .before .before .before .loop .inv) (c .before .before .loop-test .taken))
 
 add-end : tie.Need-add-end Inv-loop μ-loop
 add-end c = omega (arith, end-in c)
@@ -55,10 +49,7 @@ part-smallest-end : tie.Need-part-smallest-end Inv-loop μ-loop
 part-smallest-end c = omega (arith, end-in c)
 
 smallest-requires : tie.Need-smallest-requires Inv-loop μ-loop
-smallest-requires c κs = part-range (c .before .before .before .before .before .before .before .pre .1) (c .before .before .before .before .loop .inv) (c .before .before .before .loop-test .taken) (c .before .before .before .before .before .before .before .pre .0) (add-sub-cancel-left (c .before .before .before .before .loop .start) (c .before .wide .result) ∙ c .before .wide .ensures)
-
-is-smallest : (c : tie.After-smallest Inv-loop μ-loop) → c .smallest .result ≡ smallestAt (now (c .before .before .before .before .before .before .before .before .args .pairs)) (now (c .before .before .before .before .before .before .before .before .args .values)) (c .before .before .before .before .before .loop .i)
-is-smallest c = c .smallest .ensures ∙ ap minPeriod (part-is (c .before .before .before .before .before .before .before .before .pre .1) (c .before .before .before .before .before .loop .inv) (c .before .before .before .before .loop-test .taken) (add-sub-cancel-left (c .before .before .before .before .before .loop .start) (c .before .before .wide .result) ∙ c .before .before .wide .ensures))
+smallest-requires c κs = part-range (c .before .before .before .before .before .before .before .pre .1) (c .before .before .before .before .loop .inv) (c .before .before .before .loop-test .taken) (c .before .before .before .before .before .before .before .pre .0) (add-sub-cancel-left (c .before .before .before .before .loop .start) (c .before .wide .result) ∙ c .before .wide .ensures ∙ c .before .before .length-at .ensures)
 
 common-requires : tie.Need-common-requires Inv-loop μ-loop
 common-requires c κs = (period-range (c .before .before .before .before .before .loop .inv) (c .before .before .before .before .before .before .before .before .pre .0), rw (is-smallest c) (smallest-range (c .before .before .before .before .before .before .before .before .pre .1) (c .before .before .before .before .before .loop .inv) (c .before .before .before .before .loop-test .taken) (c .before .before .before .before .before .before .before .before .pre .0)))
@@ -70,7 +61,7 @@ loop-less : tie.Need-loop-less Inv-loop μ-loop
 loop-less c = search needs
 
 loop-again : tie.Need-loop-again Inv-loop μ-loop
-loop-again c = folding-more (c .before .before .before .before .before .before .before .before .before .pre .1) (c .before .before .before .before .before .before .loop .inv) (c .before .before .before .before .before .loop-test .taken) (ap (λ (x : ℕ). c .before .before .before .before .before .before .loop .start + x) (c .before .before .before .wide .ensures)) (is-smallest (c .before)) (c .common .ensures)
+loop-again c = folding-more (c .before .before .before .before .before .before .before .before .before .pre .1) (c .before .before .before .before .before .before .loop .inv) (c .before .before .before .before .before .loop-test .taken) (ap (λ (x : ℕ). c .before .before .before .before .before .before .loop .start + x) (c .before .before .before .wide .ensures ∙ c .before .before .before .before .length-at .ensures)) (is-smallest (c .before)) (c .common .ensures)
 
 returns : tie.Need-returns Inv-loop μ-loop
 returns c = folding-done (c .before .loop .inv) (c .before .before .before .before .pre .0) (c .loop-test .left)
@@ -82,10 +73,7 @@ common-period-spec =
     Inv-loop
     μ-loop
     loop-holds
-    mul-at
-    add-wide
-    mul-wide
-    shared-slice-read-wide
+    length-at-requires
     wide-requires
     add-end
     mul-smallest

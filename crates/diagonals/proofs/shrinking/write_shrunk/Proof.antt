@@ -18,33 +18,27 @@ abbrev μ-loop : tie.MeasureT-loop
 μ-loop slots count pairs values period pairs-out₀ values-out₀ start₀ at₀ i₀ pairs-out values-out start at i =
     count - i
 
+-- where the part of values ends
+end-in : (c : tie.After-wide Inv-loop μ-loop) → c .before .before .before .loop .start + c .wide .result ≤ length (now (c .before .before .before .before .before .before .before .before .args .values))
+end-in c = rw (c .wide .ensures ∙ c .before .length-at .ensures) (shrinkage-end (c .before .before .before .before .before .before .before .before .pre) (c .before .before .before .loop .inv) (c .before .before .loop-test .taken))
+
 loop-holds : tie.Need-loop-holds Inv-loop μ-loop
 loop-holds c = shrinkage-none _ _ _ _ _ _
 
-mul-p : tie.Need-mul-p Inv-loop μ-loop
-mul-p c = search needs
-
-add-wide : tie.Need-add-wide Inv-loop μ-loop
-add-wide c = search needs
-
-mul-wide : tie.Need-mul-wide Inv-loop μ-loop
-mul-wide c = search needs
-
-shared-slice-read-wide : tie.Need-shared-slice-read-wide Inv-loop μ-loop
-shared-slice-read-wide c = search needs
+length-at-requires : tie.Need-length-at-requires Inv-loop μ-loop
+length-at-requires c κs = search needs
 
 wide-requires : tie.Need-wide-requires Inv-loop μ-loop
 wide-requires c κs = search needs
 
--- where the part of values ends
-end-in : (c : tie.After-wide Inv-loop μ-loop) → c .before .before .before .loop .start + c .wide .result ≤ length (now (c .before .before .before .before .before .before .before .before .args .values))
-end-in c = rw (c .wide .ensures) (shrinkage-end (c .before .before .before .before .before .before .before .before .pre) (c .before .before .before .loop .inv) (c .before .before .loop-test .taken))
-
 add-end : tie.Need-add-end Inv-loop μ-loop
 add-end c = omega (arith, end-in c)
 
+offset-at-requires : tie.Need-offset-at-requires Inv-loop μ-loop
+offset-at-requires c κs = search needs
+
 mul-append : tie.Need-mul-append Inv-loop μ-loop
-mul-append c = omega (arith, end-in c)
+mul-append c = omega (arith, end-in (c .before))
 
 sub-append : tie.Need-sub-append Inv-loop μ-loop
 sub-append c = search needs
@@ -53,16 +47,13 @@ part-append-start : tie.Need-part-append-start Inv-loop μ-loop
 part-append-start c = search needs
 
 part-append-end : tie.Need-part-append-end Inv-loop μ-loop
-part-append-end c = omega (arith, end-in c)
-
-mul-append-2 : tie.Need-mul-append-2 Inv-loop μ-loop
-mul-append-2 c = search needs
-
-shared-slice-read-append : tie.Need-shared-slice-read-append Inv-loop μ-loop
-shared-slice-read-append c = search needs
+part-append-end c = omega (arith, end-in (c .before))
 
 append-requires : tie.Need-append-requires Inv-loop μ-loop
-append-requires c κs = shrinkage-appending (c .before .before .before .before .before .before .before .before .before .before .before .before .pre) (c .before .before .before .before .before .before .before .loop .inv) (c .before .before .before .before .before .before .loop-test .taken) (add-sub-cancel-left (c .before .before .before .before .before .before .before .loop .start) (c .before .before .before .before .wide .result) ∙ c .before .before .before .before .wide .ensures)
+append-requires c κs =
+    let k = c .before .before .before .before in
+    let l = k .before .before .before in
+    shrinkage-appending (l .before .before .before .before .before .pre) (l .loop .inv) (k .before .before .loop-test .taken) (add-sub-cancel-left (l .loop .start) (k .wide .result) ∙ k .wide .ensures ∙ k .before .length-at .ensures)
 
 add-at : tie.Need-add-at Inv-loop μ-loop
 add-at c = omega (arith, shrinkage-fits (c .before .before .before .before .before .before .before .before .before .before .before .before .before .before .before .before .before .pre) (c .before .before .before .before .before .before .before .before .before .before .before .before .loop .inv) (c .before .before .before .before .before .before .before .before .before .before .before .loop-test .taken))
@@ -74,7 +65,12 @@ loop-less : tie.Need-loop-less Inv-loop μ-loop
 loop-less c = search needs
 
 loop-again : tie.Need-loop-again Inv-loop μ-loop
-loop-again c = shrinkage-more (c .before .before .before .before .before .before .before .before .before .before .before .before .before .before .before .before .before .pre) (c .before .before .before .before .before .before .before .before .before .before .before .before .loop .inv) (c .before .before .before .before .before .before .before .before .before .before .before .loop-test .taken) (ap (λ (x : ℕ). c .before .before .before .before .before .before .before .before .before .before .before .before .loop .start + x) (c .before .before .before .before .before .before .before .before .before .wide .ensures)) (shrinkage-part (c .before .before .before .before .before .before .before .before .before .before .before .before .before .before .before .before .before .pre) (c .before .before .before .before .before .before .before .before .before .before .before .before .loop .inv) (add-sub-cancel-left (c .before .before .before .before .before .before .before .before .before .before .before .before .loop .start) (c .before .before .before .before .before .before .before .before .before .wide .result) ∙ c .before .before .before .before .before .before .before .before .before .wide .ensures)) (c .before .before .before .before .append .ensures)
+loop-again c =
+    let k = c .before .before .before .before .before .before .before .before .before in
+    let l = k .before .before .before in
+    let s = l .before .before .before .before .before in
+    let e = k .wide .ensures ∙ k .before .length-at .ensures in
+    shrinkage-more (s .pre) (l .loop .inv) (k .before .before .loop-test .taken) (ap (λ (x : ℕ). l .loop .start + x) e) (shrinkage-part (s .pre) (l .loop .inv) (add-sub-cancel-left (l .loop .start) (k .wide .result) ∙ e)) (c .before .before .before .before .before .before .before .before .offset-at .ensures) (c .before .before .before .before .append .ensures)
 
 same-length : tie.Need-same-length Inv-loop μ-loop
 same-length c = shrinkage-lengths (c .before .before .before .before .before .before .pre) (c .before .loop .inv) .0
@@ -92,18 +88,14 @@ write-shrunk-spec =
     Inv-loop
     μ-loop
     loop-holds
-    mul-p
-    add-wide
-    mul-wide
-    shared-slice-read-wide
+    length-at-requires
     wide-requires
     add-end
+    offset-at-requires
     mul-append
     sub-append
     part-append-start
     part-append-end
-    mul-append-2
-    shared-slice-read-append
     append-requires
     add-at
     add-i

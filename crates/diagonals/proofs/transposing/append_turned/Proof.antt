@@ -8,14 +8,8 @@ use borrow.Author.Needs.{needs}
 use Rattle.diagonals.proofs.transposing.append_turned.Statement.{statement}
 use Rattle.diagonals.proofs.transposing.append_turned.Tie as tie
 
-mul-p : tie.Need-mul-p
-mul-p c = search needs
-
-mul-wide : tie.Need-mul-wide
-mul-wide c = search needs
-
-shared-slice-read-wide : tie.Need-shared-slice-read-wide
-shared-slice-read-wide c = search needs
+offset-at-requires : tie.Need-offset-at-requires
+offset-at-requires c κs = search needs
 
 wide-requires : tie.Need-wide-requires
 wide-requires c κs = search needs
@@ -41,15 +35,16 @@ same-length-2 : tie.Need-same-length-2
 same-length-2 c = search needs
 
 returns : tie.Need-returns
-returns c = rw (← (c .before .before .before .before .before .before .before .opposite-of .ensures ∙ ap (opposite (c .before .before .before .before .before .before .before .before .before .before .before .before .before .before .args .slots)) (c .before .before .before .before .before .before .before .before .wide .ensures))) (c .before .before .before .before .append .ensures)
+returns c =
+    let k = c .before .before .before .before .before .before .before in
+    let a = k .before .before .before .before .before .before .before .args in
+    rw (← (k .opposite-of .ensures ∙ ap (opposite (a .slots)) (k .before .wide .ensures ∙ k .before .before .offset-at .ensures))) (c .before .before .before .before .append .ensures)
 
 pub append-turned-spec : {M : Type 1} → statement M
 append-turned-spec =
     tie.close
     (tie.spec
-    mul-p
-    mul-wide
-    shared-slice-read-wide
+    offset-at-requires
     wide-requires
     opposite-of-requires
     rem-append

@@ -8,11 +8,11 @@ use Rattle.diagonals.proofs.transposing.leads_with_zero.Tie as tie
 returns : tie.Need-returns
 returns c = rw (c .if1 .taken)
 
-shared-slice-read-result : tie.Need-shared-slice-read-result
-shared-slice-read-result c = search needs
+offset-at-requires : tie.Need-offset-at-requires
+offset-at-requires c κs = search needs
 
 returns-2 : tie.Need-returns-2
-returns-2 c = rw (lt-ltb 0 _ (pos-of-ne-zero (c .before .if1 .left)))
+returns-2 c = rw (lt-ltb 0 _ (pos-of-ne-zero (c .before .if1 .left)), c .offset-at .ensures)
 
 pub leads-with-zero-spec : {M : Type 1} → statement M
-leads-with-zero-spec = tie.close (tie.spec returns shared-slice-read-result returns-2)
+leads-with-zero-spec = tie.close (tie.spec returns offset-at-requires returns-2)

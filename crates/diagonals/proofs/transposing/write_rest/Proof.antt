@@ -1,10 +1,9 @@
 -- `diagonals::transposing::write_rest` meets its contract. Assumes nothing.
+use mathlib.Core.Path.{_∙_}
 use native.Mathlib.Omega.{arith}
-use denote.Ref.{now}
-use lib.ListN.{length}
 use borrow.Author.Needs.{needs}
-use Prim.Native.Nat.{_+_, _-_, _*_, _≤_}
-use Rattle.diagonals.proofs.Turnings.{Turnings, turnings-none, turnings-more, turnings-lengths, turnings-fits, turnings-inside, turnings-room, turnings-turning, turnings-done, taken-low}
+use Prim.Native.Nat.{_-_}
+use Rattle.diagonals.proofs.Turnings.{Turnings, turnings-none, turnings-more, turnings-lengths, turnings-fits, turnings-inside, turnings-room, turnings-turning, turnings-done}
 use Rattle.diagonals.proofs.transposing.write_rest.Statement.{statement}
 use Rattle.diagonals.proofs.transposing.write_rest.Tie as tie
 
@@ -19,33 +18,20 @@ abbrev μ-loop : tie.MeasureT-loop
 loop-holds : tie.Need-loop-holds Inv-loop μ-loop
 loop-holds c = turnings-none (c .before .before .before .before .pre)
 
--- the pair that is taken
-pair-in : (c : tie.In-loop Inv-loop μ-loop) → 2 * (c .before .loop .i - 1) + 2 ≤ length (now (c .before .before .before .before .before .before .args .pairs))
-pair-in c = omega (arith, taken-low (c .before .before .before .before .before .before .pre) (c .before .loop .inv) (c .loop-test .taken), c .before .before .before .before .before .before .pre .whole .formed .pairs-inside)
-
 sub-i : tie.Need-sub-i Inv-loop μ-loop
 sub-i c = omega (arith, c .before .loop .inv .down, c .before .loop .inv .low)
 
-mul-p : tie.Need-mul-p Inv-loop μ-loop
-mul-p c = omega (arith, pair-in c)
-
-add-wide : tie.Need-add-wide Inv-loop μ-loop
-add-wide c = omega (arith, pair-in c)
-
-mul-wide : tie.Need-mul-wide Inv-loop μ-loop
-mul-wide c = omega (arith, pair-in c)
-
-shared-slice-read-wide : tie.Need-shared-slice-read-wide Inv-loop μ-loop
-shared-slice-read-wide c = omega (arith, pair-in (c .before))
+length-at-requires : tie.Need-length-at-requires Inv-loop μ-loop
+length-at-requires c κs = search needs
 
 wide-requires : tie.Need-wide-requires Inv-loop μ-loop
 wide-requires c κs = search needs
 
 sub-start : tie.Need-sub-start Inv-loop μ-loop
-sub-start c = turnings-fits (c .before .before .before .before .before .before .before .before .pre) (c .before .before .before .loop .inv) (c .before .before .loop-test .taken) (c .wide .ensures)
+sub-start c = turnings-fits (c .before .before .before .before .before .before .before .before .pre) (c .before .before .before .loop .inv) (c .before .before .loop-test .taken) (c .wide .ensures ∙ c .before .length-at .ensures)
 
 mul-append-turned : tie.Need-mul-append-turned Inv-loop μ-loop
-mul-append-turned c = omega (arith, turnings-inside (c .before .before .before .before .before .before .before .before .pre) (c .before .before .before .loop .inv) (c .before .before .loop-test .taken) (c .wide .ensures))
+mul-append-turned c = omega (arith, turnings-inside (c .before .before .before .before .before .before .before .before .pre) (c .before .before .before .loop .inv) (c .before .before .loop-test .taken) (c .wide .ensures ∙ c .before .length-at .ensures))
 
 sub-append-turned : tie.Need-sub-append-turned Inv-loop μ-loop
 sub-append-turned c = omega arith
@@ -54,16 +40,16 @@ part-append-turned-start : tie.Need-part-append-turned-start Inv-loop μ-loop
 part-append-turned-start c = omega arith
 
 part-append-turned-end : tie.Need-part-append-turned-end Inv-loop μ-loop
-part-append-turned-end c = turnings-inside (c .before .before .before .before .before .before .before .before .pre) (c .before .before .before .loop .inv) (c .before .before .loop-test .taken) (c .wide .ensures)
+part-append-turned-end c = turnings-inside (c .before .before .before .before .before .before .before .before .pre) (c .before .before .before .loop .inv) (c .before .before .loop-test .taken) (c .wide .ensures ∙ c .before .length-at .ensures)
 
 append-turned-requires : tie.Need-append-turned-requires Inv-loop μ-loop
-append-turned-requires c κs = turnings-turning (c .before .before .before .before .before .before .before .before .before .before .before .pre) (c .before .before .before .before .before .before .loop .inv) (c .before .before .before .before .before .loop-test .taken) (c .before .before .before .wide .ensures)
+append-turned-requires c κs = turnings-turning (c .before .before .before .before .before .before .before .before .before .before .before .pre) (c .before .before .before .before .before .before .loop .inv) (c .before .before .before .before .before .loop-test .taken) (c .before .before .before .wide .ensures ∙ c .before .before .before .before .length-at .ensures)
 
 sub-at : tie.Need-sub-at Inv-loop μ-loop
 sub-at c = omega arith
 
 add-at : tie.Need-add-at Inv-loop μ-loop
-add-at c = omega (arith, turnings-room (c .before .before .before .before .before .before .before .before .before .before .before .before .before .before .before .before .pre) (c .before .before .before .before .before .before .before .before .before .before .before .loop .inv) (c .before .before .before .before .before .before .before .before .before .before .loop-test .taken) (c .before .before .before .before .before .before .before .before .wide .ensures), c .before .before .before .before .before .before .before .before .before .before .before .before .before .before .before .before .pre .whole .values-room)
+add-at c = omega (arith, turnings-room (c .before .before .before .before .before .before .before .before .before .before .before .before .before .before .before .before .pre) (c .before .before .before .before .before .before .before .before .before .before .before .loop .inv) (c .before .before .before .before .before .before .before .before .before .before .loop-test .taken) (c .before .before .before .before .before .before .before .before .wide .ensures ∙ c .before .before .before .before .before .before .before .before .before .length-at .ensures), c .before .before .before .before .before .before .before .before .before .before .before .before .before .before .before .before .pre .whole .values-room)
 
 add-n : tie.Need-add-n Inv-loop μ-loop
 add-n c = search needs
@@ -72,7 +58,7 @@ loop-less : tie.Need-loop-less Inv-loop μ-loop
 loop-less c = search needs
 
 loop-again : tie.Need-loop-again Inv-loop μ-loop
-loop-again c = turnings-more (c .before .before .before .before .before .before .before .before .before .before .before .before .before .before .before .before .pre) (c .before .before .before .before .before .before .before .before .before .before .before .loop .inv) (c .before .before .before .before .before .before .before .before .before .before .loop-test .taken) (c .before .before .before .before .before .before .before .before .wide .ensures) (c .before .before .before .before .append-turned .ensures)
+loop-again c = turnings-more (c .before .before .before .before .before .before .before .before .before .before .before .before .before .before .before .before .pre) (c .before .before .before .before .before .before .before .before .before .before .before .loop .inv) (c .before .before .before .before .before .before .before .before .before .before .loop-test .taken) (c .before .before .before .before .before .before .before .before .wide .ensures ∙ c .before .before .before .before .before .before .before .before .before .length-at .ensures) (c .before .before .before .before .append-turned .ensures)
 
 same-length : tie.Need-same-length Inv-loop μ-loop
 same-length c = turnings-lengths (c .before .before .before .before .before .before .pre) (c .before .loop .inv) .0
@@ -91,10 +77,7 @@ write-rest-spec =
     μ-loop
     loop-holds
     sub-i
-    mul-p
-    add-wide
-    mul-wide
-    shared-slice-read-wide
+    length-at-requires
     wide-requires
     sub-start
     mul-append-turned

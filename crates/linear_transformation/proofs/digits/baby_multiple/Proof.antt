@@ -6,7 +6,7 @@ use native.Mathlib.Omega.{arith}
 use mir.Syntax.{w64}
 use mir.ValLaws.{toZ-ofZ}
 use Rattle.ring.specs.Refusals.{outside, Range}
-use Rattle.linear_transformation.specs.Rotations.{noBaby}
+use Rattle.linear_transformation.specs.Listed.{noBaby}
 use Rattle.linear_transformation.proofs.BabyChecks.{small-casts}
 use Rattle.linear_transformation.proofs.BabyTables.{small-of}
 use Rattle.linear_transformation.proofs.digits.baby_multiple.Statement.{statement}

@@ -8,7 +8,7 @@ use lib.IntN.{pos, _-ℤ_}
 use mir.Syntax.{w64}
 use mir.Val.{SFits, toZ}
 use mir.ValLaws.{toZ-ofZ}
-use Rattle.linear_transformation.specs.Steps.{Digitable}
+use Rattle.linear_transformation.specs.Steps.Numbers.{Digitable}
 use Rattle.linear_transformation.specs.Laws.Digits.{digit-undivided, digit-below, digit-from, below-period, minus}
 use Rattle.linear_transformation.proofs.digits.digit_of.Statement.{statement}
 use Rattle.linear_transformation.proofs.digits.digit_of.Tie as tie

@@ -7,7 +7,7 @@ use lib.Signed.{ltZ}
 use mir.Syntax.{w64}
 use mir.Val.{SFits, ofZ, toZ}
 use mir.ValLaws.{toZ-ofZ}
-use Rattle.linear_transformation.specs.BabySteps.{Small}
+use Rattle.linear_transformation.specs.Steps.Babies.{Small}
 use Rattle.linear_transformation.proofs.BabyChecks.{small-casts}
 use Rattle.linear_transformation.proofs.digits.is_no_baby.Statement.{statement}
 use Rattle.linear_transformation.proofs.digits.is_no_baby.Tie as tie

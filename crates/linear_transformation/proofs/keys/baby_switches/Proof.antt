@@ -15,7 +15,7 @@ count-marks-requires : tie.Need-count-marks-requires
 count-marks-requires c κs = search needs
 
 returns : tie.Need-returns
-returns c = baby-switches (c .before .before .mark-plan .ensures) (c .count-marks .ensures)
+returns c = baby-switches (c .before .before .mark-plan .ensures) (c .count-marks .ensures .within (c .before .before .mark-plan .ensures .bounded .room))
 
 pub baby-switches-spec : {M : Type 1} → statement M
 baby-switches-spec =

@@ -3,7 +3,7 @@ use borrow.Author.Needs.{needs}
 use native.Mathlib.Omega.{arith}
 use mathlib.Core.Path.{ap}
 use Rattle.linear_transformation.specs.Plans.{widthOf}
-use Rattle.linear_transformation.specs.KeySteps.{Sizable}
+use Rattle.linear_transformation.specs.Steps.Keys.{Sizable}
 use Rattle.linear_transformation.proofs.Keyings.{sized, of-width}
 use Rattle.linear_transformation.proofs.KeyAnswers.{width-switches, powers-switches, direct-switches}
 use Rattle.linear_transformation.proofs.keys.giant_switches.Statement.{statement}

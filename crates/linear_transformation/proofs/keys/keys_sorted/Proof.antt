@@ -3,7 +3,7 @@ use borrow.Author.Needs.{needs}
 use native.Mathlib.Omega.{arith}
 use mathlib.Core.Path.{ap}
 use Rattle.linear_transformation.specs.Plans.{widthOf}
-use Rattle.linear_transformation.specs.KeySteps.{Sizable}
+use Rattle.linear_transformation.specs.Steps.Keys.{Sizable}
 use Rattle.linear_transformation.proofs.Keyings.{of-width}
 use Rattle.linear_transformation.proofs.KeyAnswers.{keys-width, keys-powers, keys-direct}
 use Rattle.linear_transformation.proofs.keys.keys_sorted.Statement.{statement}

@@ -20,16 +20,18 @@ count-turns-requires : tie.Need-count-turns-requires
 count-turns-requires c κs = sized (c .before .before .before .before .before .before .pre)
 
 add-if1 : tie.Need-add-if1
-add-if1 c = omega (arith, own-small (c .before .before .before .before .before .before .before .pre) (c .before .before .before .mark-own .ensures) (c .before .count-marks .ensures) (c .count-turns .ensures))
+add-if1 c = omega (arith, own-small (c .before .before .before .before .before .before .before .pre) (c .before .before .before .mark-own .ensures) (c .before .count-marks .ensures .within (c .before .before .before .mark-own .ensures .bounded .room)) (c .count-turns .ensures))
 
 returns : tie.Need-returns
-returns c = own-short (c .before .before .before .before .before .before .before .before .pre) (c .before .before .before .before .mark-own .ensures) (c .before .before .count-marks .ensures) (c .before .count-turns .ensures) _ (c .if1 .taken)
+returns c = own-short (c .before .before .before .before .before .before .before .before .pre) (c .before .before .before .before .mark-own .ensures) (c .before .before .count-marks .ensures .within (c .before .before .before .before .mark-own .ensures .bounded .room)) (c .before .count-turns .ensures) _ (c .if1 .taken)
 
 write-marks-requires : tie.Need-write-marks-requires
-write-marks-requires c κs = search needs
+write-marks-requires c κs =
+    let m = c .before .before .before .before .before .before .mark-own .ensures in
+    (m .bounded .room, (m .range, omega (arith, c .before .before .before .before .count-marks .ensures .within (m .bounded .room), c .before .before .if1 .left)))
 
 write-turns-requires : tie.Need-write-turns-requires
-write-turns-requires c κs = (sized (c .before .before .before .before .before .before .before .before .before .before .before .before .before .before .pre), turns-room (c .before .before .before .before .before .before .before .before .before .before .before .before .before .before .pre) (c .before .before .before .before .before .before .before .before .before .before .mark-own .ensures) (c .before .before .before .before .before .before .before .before .count-marks .ensures) (c .before .before .before .before .before .before .before .count-turns .ensures) _ (omega (arith, c .before .before .before .before .before .before .if1 .left)) (c .before .before .before .write-marks .ensures))
+write-turns-requires c κs = (sized (c .before .before .before .before .before .before .before .before .before .before .before .before .before .before .pre), turns-room (c .before .before .before .before .before .before .before .before .before .before .before .before .before .before .pre) (c .before .before .before .before .before .before .before .before .before .before .mark-own .ensures) (c .before .before .before .before .before .before .before .before .count-marks .ensures .within (c .before .before .before .before .before .before .before .before .before .before .mark-own .ensures .bounded .room)) (c .before .before .before .before .before .before .before .count-turns .ensures) _ (omega (arith, c .before .before .before .before .before .before .if1 .left)) (c .before .before .before .write-marks .ensures))
 
 add-t15 : tie.Need-add-t15
 add-t15 c = search needs
@@ -38,7 +40,7 @@ same-length : tie.Need-same-length
 same-length c = search needs
 
 returns-2 : tie.Need-returns-2
-returns-2 c = own-written (c .before .before .before .before .before .before .before .before .before .before .before .before .before .before .before .before .before .pre) (c .before .before .before .before .before .before .before .before .before .before .before .before .before .mark-own .ensures) (c .before .before .before .before .before .before .before .before .before .before .before .count-marks .ensures) (c .before .before .before .before .before .before .before .before .before .before .count-turns .ensures) _ (omega (arith, c .before .before .before .before .before .before .before .before .before .if1 .left)) (c .before .before .before .before .before .before .write-marks .ensures) (c .before .before .write-turns .ensures)
+returns-2 c = own-written (c .before .before .before .before .before .before .before .before .before .before .before .before .before .before .before .before .before .pre) (c .before .before .before .before .before .before .before .before .before .before .before .before .before .mark-own .ensures) (c .before .before .before .before .before .before .before .before .before .before .before .count-marks .ensures .within (c .before .before .before .before .before .before .before .before .before .before .before .before .before .mark-own .ensures .bounded .room)) (c .before .before .before .before .before .before .before .before .before .before .count-turns .ensures) _ (omega (arith, c .before .before .before .before .before .before .before .before .before .if1 .left)) (c .before .before .before .before .before .before .write-marks .ensures) (c .before .before .write-turns .ensures)
 
 pub own-keys-spec : {M : Type 1} → statement M
 own-keys-spec =

@@ -3,7 +3,7 @@ use borrow.Author.Needs.{needs}
 use native.Mathlib.Omega.{arith}
 use mathlib.Core.Path.{ap}
 use Rattle.linear_transformation.specs.Plans.{widthOf}
-use Rattle.linear_transformation.specs.KeySteps.{Sizable}
+use Rattle.linear_transformation.specs.Steps.Keys.{Sizable}
 use Rattle.linear_transformation.proofs.Keyings.{of-width, table-width, table-powers, table-direct}
 use Rattle.linear_transformation.proofs.marks.mark_plan.Statement.{statement}
 use Rattle.linear_transformation.proofs.marks.mark_plan.Tie as tie

@@ -1,13 +1,19 @@
 -- `maps::readings::build_rule` meets its contract. Assumes nothing.
 use borrow.Author.Needs.{needs}
-use Prim.Native.Nat.{ℕ}
+use Prim.Native.Nat.{ℕ, _≤_}
 use native.Mathlib.Omega.{arith}
-use lib.ListN.{length-replicate}
+use denote.Ref.{now}
+use lib.ListN.{length, replicate, length-replicate}
+use Rattle.ring.specs.Slots.{modulus}
 use Rattle.diagonals.specs.Laws.Terms.{unmarked, zero-refused, zero-places, zero-sums, zero-written}
 use Rattle.maps.specs.Laws.Tiling.{low-squared}
 use Rattle.maps.proofs.Answering.{rule-refused, rule-room, rule-written, is-ruled, rule-period}
 use Rattle.maps.proofs.readings.build_rule.Statement.{statement}
 use Rattle.maps.proofs.readings.build_rule.Tie as tie
+
+-- the table of places has room for all slots
+fit : (c : tie.After-zero-map) → c .before .before .before .before .before .before .before .before .before .before .before .before .args .slots ≤ length {A = ℕ} (replicate 65536 0)
+fit c = rw length-replicate (is-ruled (c .before .before .before .before .before .before .before .before .before .rule-refusal .ensures) (c .before .before .before .before .before .before .before .before .if1 .left) (c .before .before .before .before .before .before .before .side .ensures) .tiles .small)
 
 rule-refusal-requires : tie.Need-rule-refusal-requires
 rule-refusal-requires c κs = search needs
@@ -24,14 +30,30 @@ mark-reads-requires c κs = (is-ruled (c .before .before .before .rule-refusal .
 mul-zero-map : tie.Need-mul-zero-map
 mul-zero-map c = omega (arith, low-squared (is-ruled (c .before .before .before .before .rule-refusal .ensures) (c .before .before .before .if1 .left) (c .before .before .side .ensures) .tiles .side-low))
 
+slice-aggregate-zero-map : tie.Need-slice-aggregate-zero-map
+slice-aggregate-zero-map c = search needs
+
 zero-map-requires : tie.Need-zero-map-requires
 zero-map-requires c κs = search needs
+
+enum-known-e : tie.Need-enum-known-e
+enum-known-e c = search needs
 
 enum-known-count : tie.Need-enum-known-count
 enum-known-count c = search needs
 
-enum-told : tie.Need-enum-told
-enum-told c = search needs
+add-reads-requires : tie.Need-add-reads-requires
+add-reads-requires c κs =
+    let k = c .before .before .before .before .before .before .before .before .before .before in
+    let j = k .before .before .before .before .before .before .before .before .before .rule-refusal .ensures in
+    let z = k .before .before .before .before .before .before .before .before .if1 .left in
+    let s = k .before .before .before .before .before .before .before .side .ensures in
+    let q = rule-room j z s (now (k .before .before .before .before .before .before .before .before .before .before .before .before .args .pairs)) (now (k .before .before .before .before .before .before .before .before .before .before .before .before .args .values)) in
+    record {
+      ruled = is-ruled j z s;
+      placed = zero-places modulus (k .before .before .before .before .before .mark-reads .ensures) (rule-period j z s) (fit k) q (k .zero-map .ensures) (c .before .before .before .count .given .1);
+      zeros = zero-sums modulus (k .before .before .before .before .before .mark-reads .ensures) (rule-period j z s) (fit k) q (k .zero-map .ensures) (c .before .before .before .count .given .1);
+    }
 
 same-length : tie.Need-same-length
 same-length c = search needs
@@ -41,23 +63,12 @@ same-length-2 c = search needs
 
 returns-2 : tie.Need-returns-2
 returns-2 c =
-    let j = c .before .before .before .before .before .before .before .before .before .before .before .before .before .before .before .rule-refusal .ensures in
-    let z = c .before .before .before .before .before .before .before .before .before .before .before .before .before .before .if1 .left in
-    let s = c .before .before .before .before .before .before .before .before .before .before .before .before .before .side .ensures in
-    let m = c .before .before .before .before .before .before .before .before .before .before .before .mark-reads .ensures in
-    let q = rule-room j z s (c .before .before .before .before .before .before .before .before .before .before .before .before .before .before .before .before .before .before .args .pairs .now) (c .before .before .before .before .before .before .before .before .before .before .before .before .before .before .before .before .before .before .args .values .now) in
-    let w = c .before .before .before .before .before .before .zero-map .ensures in
-    rule-written j z s (zero-refused m (rule-period j z s) q w (c .enum-told .given .1))
-
-add-reads-requires : tie.Need-add-reads-requires
-add-reads-requires c κs =
-    let j = c .before .before .before .before .before .before .before .before .before .before .before .before .before .before .before .before .before .before .rule-refusal .ensures in
-    let z = c .before .before .before .before .before .before .before .before .before .before .before .before .before .before .before .before .before .if1 .left in
-    let s = c .before .before .before .before .before .before .before .before .before .before .before .before .before .before .before .before .side .ensures in
-    let m = c .before .before .before .before .before .before .before .before .before .before .before .before .before .before .mark-reads .ensures in
-    let q = rule-room j z s (c .before .before .before .before .before .before .before .before .before .before .before .before .before .before .before .before .before .before .before .before .before .args .pairs .now) (c .before .before .before .before .before .before .before .before .before .before .before .before .before .before .before .before .before .before .before .before .before .args .values .now) in
-    let w = c .before .before .before .before .before .before .before .before .before .zero-map .ensures in
-    record { ruled = is-ruled j z s; placed = zero-places m (rule-period j z s) q w (c .before .before .before .count .given .1) (length-replicate {A = ℕ} 65536 0); zeros = zero-sums m (rule-period j z s) q w (c .before .before .before .count .given .1) }
+    let k = c .before .before .before .before .before .before .before .before in
+    let j = k .before .before .before .before .before .before .before .before .before .rule-refusal .ensures in
+    let z = k .before .before .before .before .before .before .before .before .if1 .left in
+    let s = k .before .before .before .before .before .before .before .side .ensures in
+    let q = rule-room j z s (now (k .before .before .before .before .before .before .before .before .before .before .before .before .args .pairs)) (now (k .before .before .before .before .before .before .before .before .before .before .before .before .args .values)) in
+    rule-written j z s (zero-refused modulus (k .before .before .before .before .before .mark-reads .ensures) (rule-period j z s) (fit k) q (k .zero-map .ensures) (c .before .e .given .1))
 
 same-length-3 : tie.Need-same-length-3
 same-length-3 c = search needs
@@ -67,13 +78,12 @@ same-length-4 c = search needs
 
 returns-3 : tie.Need-returns-3
 returns-3 c =
-    let j = c .before .before .before .before .before .before .before .before .before .before .before .before .before .before .before .before .before .before .before .before .before .rule-refusal .ensures in
-    let z = c .before .before .before .before .before .before .before .before .before .before .before .before .before .before .before .before .before .before .before .before .if1 .left in
-    let s = c .before .before .before .before .before .before .before .before .before .before .before .before .before .before .before .before .before .before .before .side .ensures in
-    let m = c .before .before .before .before .before .before .before .before .before .before .before .before .before .before .before .before .before .mark-reads .ensures in
-    let q = rule-room j z s (c .before .before .before .before .before .before .before .before .before .before .before .before .before .before .before .before .before .before .before .before .before .before .before .before .args .pairs .now) (c .before .before .before .before .before .before .before .before .before .before .before .before .before .before .before .before .before .before .before .before .before .before .before .before .args .values .now) in
-    let w = c .before .before .before .before .before .before .before .before .before .before .before .before .zero-map .ensures in
-    rule-written j z s (zero-written m (rule-period j z s) q w (c .before .before .before .before .before .before .count .given .1) (c .before .before .add-reads .ensures))
+    let k = c .before .before .before .before .before .before .before .before .before .before .before .before .before in
+    let j = k .before .before .before .before .before .before .before .before .before .rule-refusal .ensures in
+    let z = k .before .before .before .before .before .before .before .before .if1 .left in
+    let s = k .before .before .before .before .before .before .before .side .ensures in
+    let q = rule-room j z s (now (k .before .before .before .before .before .before .before .before .before .before .before .before .args .pairs)) (now (k .before .before .before .before .before .before .before .before .before .before .before .before .args .values)) in
+    rule-written j z s (zero-written modulus (k .before .before .before .before .before .mark-reads .ensures) (rule-period j z s) (fit k) q (k .zero-map .ensures) (c .before .before .before .before .before .before .count .given .1) (c .before .before .add-reads .ensures))
 
 pub build-rule-spec : {M : Type 1} → statement M
 build-rule-spec =
@@ -84,13 +94,14 @@ build-rule-spec =
     side-requires
     mark-reads-requires
     mul-zero-map
+    slice-aggregate-zero-map
     zero-map-requires
+    enum-known-e
     enum-known-count
-    enum-told
+    add-reads-requires
     same-length
     same-length-2
     returns-2
-    add-reads-requires
     same-length-3
     same-length-4
     returns-3)

@@ -29,24 +29,24 @@ mul-size c = omega (arith, square c)
 returns-2 : tie.Need-returns-2
 returns-2 c = left-no-matrix (c .before .before .before .tiles-refusal .ensures) _ _ _ (c .before .before .if1 .left) (rw (c .before .side .ensures) at (c .if2 .taken))
 
-mul-has-no-room : tie.Need-mul-has-no-room
-mul-has-no-room c = omega (arith, mul-le-mul (low (c .before)) (square (c .before)))
+mul-room-refusal : tie.Need-mul-room-refusal
+mul-room-refusal c = omega (arith, mul-le-mul (low (c .before)) (square (c .before)))
 
-has-no-room-requires : tie.Need-has-no-room-requires
-has-no-room-requires c κs = omega (arith, low (c .before))
+room-refusal-requires : tie.Need-room-refusal-requires
+room-refusal-requires c κs = omega (arith, low (c .before))
 
 returns-3 : tie.Need-returns-3
 returns-3 c =
     let e = c .before .before .before .side .ensures in
-    left-no-room (c .before .before .before .before .before .tiles-refusal .ensures) _ _ _ (c .before .before .before .before .if1 .left) (rw e at (c .before .before .if2 .left)) (rw e at (c .before .has-no-room .ensures)) (c .if3 .taken)
+    left-no-room (c .before .before .before .before .before .tiles-refusal .ensures) _ _ _ (c .before .before .before .before .if1 .left) (rw e at (c .before .before .if2 .left)) (rw e at (c .before .room-refusal .ensures)) (c .if3 .taken)
 
 write-pairs-requires : tie.Need-write-pairs-requires
-write-pairs-requires c κs = let d = c .before .before .before .before in (low d, (square d, c .before .before .has-no-room .ensures .pairs-fit (c .before .if3 .left)))
+write-pairs-requires c κs = let d = c .before .before .before .before in (low d, (square d, c .before .before .room-refusal .ensures .pairs-fit (c .before .if3 .left)))
 
 write-turned-requires : tie.Need-write-turned-requires
 write-turned-requires c κs =
     let e = c .before .before .before .before .before .before .before .before .side .ensures in
-    (c .before .before .before .before .before .before .before .before .before .before .tiles-refusal .ensures .tiles (c .before .before .before .before .before .before .before .before .before .if1 .left) .log-low, (rw e at (c .before .before .before .before .before .before .before .if2 .left), rw (← e) (c .before .before .before .before .before .before .has-no-room .ensures .values-fit (c .before .before .before .before .before .if3 .left))))
+    (c .before .before .before .before .before .before .before .before .before .before .tiles-refusal .ensures .tiles (c .before .before .before .before .before .before .before .before .before .if1 .left) .log-low, (rw e at (c .before .before .before .before .before .before .before .if2 .left), rw (← e) (c .before .before .before .before .before .before .room-refusal .ensures .values-fit (c .before .before .before .before .before .if3 .left))))
 
 same-length : tie.Need-same-length
 same-length c = search needs
@@ -58,7 +58,7 @@ returns-4 : tie.Need-returns-4
 returns-4 c =
     let e = c .before .before .before .before .before .before .before .before .before .before .before .side .ensures in
     rw e
-    (left-written (c .before .before .before .before .before .before .before .before .before .before .before .before .before .tiles-refusal .ensures) _ _ _ (c .before .before .before .before .before .before .before .before .before .before .before .before .if1 .left) (rw e at (c .before .before .before .before .before .before .before .before .before .before .if2 .left)) (rw e at (c .before .before .before .before .before .before .before .before .before .has-no-room .ensures)) (c .before .before .before .before .before .before .before .before .if3 .left) (rw e at (c .before .before .before .before .before .before .write-pairs .ensures)) (c .before .before .write-turned .ensures))
+    (left-written (c .before .before .before .before .before .before .before .before .before .before .before .before .before .tiles-refusal .ensures) _ _ _ (c .before .before .before .before .before .before .before .before .before .before .before .before .if1 .left) (rw e at (c .before .before .before .before .before .before .before .before .before .before .if2 .left)) (rw e at (c .before .before .before .before .before .before .before .before .before .room-refusal .ensures)) (c .before .before .before .before .before .before .before .before .if3 .left) (rw e at (c .before .before .before .before .before .before .write-pairs .ensures)) (c .before .before .write-turned .ensures))
 
 pub left-mul-rep-spec : {M : Type 1} → statement M
 left-mul-rep-spec =
@@ -69,8 +69,8 @@ left-mul-rep-spec =
     side-requires
     mul-size
     returns-2
-    mul-has-no-room
-    has-no-room-requires
+    mul-room-refusal
+    room-refusal-requires
     returns-3
     write-pairs-requires
     write-turned-requires

@@ -24,20 +24,20 @@ returns c = tiled-refused (c .before .tiles-refusal .ensures) (tauRep _) _ _ (c 
 side-requires : tie.Need-side-requires
 side-requires c κs = c .before .tiles-refusal .ensures .tiles (c .if1 .left) .log-low
 
-mul-has-no-room : tie.Need-mul-has-no-room
-mul-has-no-room c = omega (arith, square c)
+mul-room-refusal : tie.Need-mul-room-refusal
+mul-room-refusal c = omega (arith, square c)
 
-has-no-room-requires : tie.Need-has-no-room-requires
-has-no-room-requires c κs = omega (arith, low c)
+room-refusal-requires : tie.Need-room-refusal-requires
+room-refusal-requires c κs = omega (arith, low c)
 
 returns-2 : tie.Need-returns-2
-returns-2 c = tau-no-room (c .before .before .before .before .tiles-refusal .ensures) (c .before .before .before .if1 .left) _ _ (rw (c .before .before .side .ensures) at (c .before .has-no-room .ensures)) (c .if2 .taken)
+returns-2 c = tau-no-room (c .before .before .before .before .tiles-refusal .ensures) (c .before .before .before .if1 .left) _ _ (rw (c .before .before .side .ensures) at (c .before .room-refusal .ensures)) (c .if2 .taken)
 
 write-pairs-requires : tie.Need-write-pairs-requires
-write-pairs-requires c κs = let d = c .before .before .before in (low d, (omega (arith, low d), c .before .before .has-no-room .ensures .pairs-fit (c .before .if2 .left)))
+write-pairs-requires c κs = let d = c .before .before .before in (low d, (omega (arith, low d), c .before .before .room-refusal .ensures .pairs-fit (c .before .if2 .left)))
 
 write-masks-requires : tie.Need-write-masks-requires
-write-masks-requires c κs = (c .before .before .before .before .before .before .before .before .before .tiles-refusal .ensures .tiles (c .before .before .before .before .before .before .before .before .if1 .left) .log-low, rw (← (c .before .before .before .before .before .before .before .side .ensures)) (c .before .before .before .before .before .before .has-no-room .ensures .values-fit (c .before .before .before .before .before .if2 .left)))
+write-masks-requires c κs = (c .before .before .before .before .before .before .before .before .before .tiles-refusal .ensures .tiles (c .before .before .before .before .before .before .before .before .if1 .left) .log-low, rw (← (c .before .before .before .before .before .before .before .side .ensures)) (c .before .before .before .before .before .before .room-refusal .ensures .values-fit (c .before .before .before .before .before .if2 .left)))
 
 same-length : tie.Need-same-length
 same-length c = search needs
@@ -49,7 +49,7 @@ returns-3 : tie.Need-returns-3
 returns-3 c =
     let e = c .before .before .before .before .before .before .before .before .before .before .side .ensures in
     rw e
-    (tau-written (c .before .before .before .before .before .before .before .before .before .before .before .before .tiles-refusal .ensures) (c .before .before .before .before .before .before .before .before .before .before .before .if1 .left) _ _ (rw e at (c .before .before .before .before .before .before .before .before .before .has-no-room .ensures)) (c .before .before .before .before .before .before .before .before .if2 .left) (rw e at (c .before .before .before .before .before .before .write-pairs .ensures)) (c .before .before .write-masks .ensures))
+    (tau-written (c .before .before .before .before .before .before .before .before .before .before .before .before .tiles-refusal .ensures) (c .before .before .before .before .before .before .before .before .before .before .before .if1 .left) _ _ (rw e at (c .before .before .before .before .before .before .before .before .before .room-refusal .ensures)) (c .before .before .before .before .before .before .before .before .if2 .left) (rw e at (c .before .before .before .before .before .before .write-pairs .ensures)) (c .before .before .write-masks .ensures))
 
 pub tau-rep-spec : {M : Type 1} → statement M
 tau-rep-spec =
@@ -58,8 +58,8 @@ tau-rep-spec =
     tiles-refusal-requires
     returns
     side-requires
-    mul-has-no-room
-    has-no-room-requires
+    mul-room-refusal
+    room-refusal-requires
     returns-2
     write-pairs-requires
     write-masks-requires

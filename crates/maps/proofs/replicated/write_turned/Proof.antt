@@ -7,7 +7,7 @@ use native.Mathlib.Omega.{arith}
 use lib.ListN.{length, getD}
 use Rattle.ring.specs.Vectors.{Filling}
 use Rattle.ring.specs.Laws.Vectors.{filling-none, filling-more}
-use Rattle.maps.specs.RowSteps.{rowValue, turnedAt}
+use Rattle.maps.specs.Steps.Rows.{rowValue, turnedAt}
 use Rattle.maps.specs.Laws.Tiling.{side-pos, side-low, square-low}
 use Rattle.maps.specs.Laws.Rows.{filled-upto}
 use Rattle.maps.specs.Laws.Blocks.{turned-low}

@@ -5,7 +5,7 @@ use mathlib.Core.Path.{_≡_, refl}
 use native.Mathlib.Omega.{arith}
 use Rattle.ring.specs.Vectors.{Filling}
 use Rattle.ring.specs.Laws.Vectors.{filling-none, filling-more, filling-rest}
-use Rattle.maps.specs.ShrinkSteps.{movedAt}
+use Rattle.maps.specs.Steps.Shrinking.{movedAt}
 use Rattle.maps.specs.Laws.Rows.{filled-upto}
 use Rattle.maps.specs.Laws.Narrow.{narrow-fits, moved-inside, moved-behind}
 use Rattle.maps.proofs.shrinking.move_rows.Statement.{statement}

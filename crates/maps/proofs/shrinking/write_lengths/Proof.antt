@@ -1,10 +1,11 @@
 -- `maps::shrinking::write_lengths` meets its contract. Assumes nothing.
 use borrow.Author.Needs.{needs}
-use Prim.Native.Nat.{_-_, _≤_}
-use mathlib.Core.Path.{refl}
+use Prim.Native.Nat.{_+_, _-_, _≤_}
+use mathlib.Core.Path.{refl, _∙_}
 use native.Mathlib.Omega.{arith}
 use Rattle.diagonals.specs.Maps.{offsetAt}
-use Rattle.maps.specs.Laws.Rows.{Pairing, pairing-none, pairing-kept, pairing-done}
+use Rattle.diagonals.specs.Laws.Pairs.{room-mono}
+use Rattle.maps.specs.Laws.Rows.{Pairing, pairing-none, pairing-more, pairing-next, pairing-done}
 use Rattle.maps.proofs.shrinking.write_lengths.Statement.{statement}
 use Rattle.maps.proofs.shrinking.write_lengths.Tie as tie
 
@@ -17,20 +18,14 @@ abbrev μ-loop : tie.MeasureT-loop
 loop-holds : tie.Need-loop-holds Inv-loop μ-loop
 loop-holds c = (pairing-none _ _ _, omega arith)
 
-cast-pairs : tie.Need-cast-pairs Inv-loop μ-loop
-cast-pairs c = search needs
+offset-at-requires : tie.Need-offset-at-requires Inv-loop μ-loop
+offset-at-requires c κs = search needs
 
-mul-pairs : tie.Need-mul-pairs Inv-loop μ-loop
-mul-pairs c = search needs
+cast-put-pair : tie.Need-cast-put-pair Inv-loop μ-loop
+cast-put-pair c = search needs
 
-add-pairs : tie.Need-add-pairs Inv-loop μ-loop
-add-pairs c = search needs
-
-mul-pairs-2 : tie.Need-mul-pairs-2 Inv-loop μ-loop
-mul-pairs-2 c = search needs
-
-slice-write-pairs : tie.Need-slice-write-pairs Inv-loop μ-loop
-slice-write-pairs c = search needs
+put-pair-requires : tie.Need-put-pair-requires Inv-loop μ-loop
+put-pair-requires c κs = search needs
 
 add-i : tie.Need-add-i Inv-loop μ-loop
 add-i c = search needs
@@ -39,7 +34,9 @@ loop-less : tie.Need-loop-less Inv-loop μ-loop
 loop-less c = search needs
 
 loop-again : tie.Need-loop-again Inv-loop μ-loop
-loop-again c = (pairing-kept (c .before .loop .inv .0) (omega arith) refl, omega arith)
+loop-again c =
+    let s = c .before .before .before .before .before .before .before .loop in
+    (rw (c .before .before .put-pair .ensures) (pairing-more (s .inv .0) (omega (arith, room-mono (s .i + 1) (c .before .before .before .before .before .before .before .before .before .args .count) (omega arith))) (c .before .before .before .before .offset-at .ensures ∙ pairing-next (s .inv .0)) refl), omega arith)
 
 same-length : tie.Need-same-length Inv-loop μ-loop
 same-length c = search needs
@@ -54,11 +51,9 @@ write-lengths-spec =
     Inv-loop
     μ-loop
     loop-holds
-    cast-pairs
-    mul-pairs
-    add-pairs
-    mul-pairs-2
-    slice-write-pairs
+    offset-at-requires
+    cast-put-pair
+    put-pair-requires
     add-i
     loop-less
     loop-again

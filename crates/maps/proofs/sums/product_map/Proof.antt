@@ -1,12 +1,18 @@
 -- `maps::sums::product_map` meets its contract. Assumes nothing.
 use borrow.Author.Needs.{needs}
-use Prim.Native.Nat.{ℕ}
+use Prim.Native.Nat.{ℕ, _≤_}
 use native.Mathlib.Omega.{arith}
-use lib.ListN.{length-replicate}
+use denote.Ref.{now}
+use lib.ListN.{length, replicate, length-replicate}
+use Rattle.ring.specs.Slots.{modulus}
 use Rattle.diagonals.specs.Laws.Terms.{unmarked, zero-refused, zero-places, zero-sums, zero-written}
 use Rattle.maps.proofs.Answering.{product-refused, product-tiles, product-outputs, product-period, product-room, product-written, product-summing}
 use Rattle.maps.proofs.sums.product_map.Statement.{statement}
 use Rattle.maps.proofs.sums.product_map.Tie as tie
+
+-- the table of places has room for all slots
+fit : (c : tie.After-zero-map) → c .before .before .before .before .before .before .before .before .before .before .before .before .before .before .args .slots ≤ length {A = ℕ} (replicate 65536 0)
+fit c = rw length-replicate (product-tiles (c .before .before .before .before .before .before .before .before .before .before .product-refusal .ensures) (c .before .before .before .before .before .before .before .before .before .if1 .left) (c .before .before .before .before .before .before .before .before .side .ensures) .small)
 
 product-refusal-requires : tie.Need-product-refusal-requires
 product-refusal-requires c κs = search needs
@@ -23,14 +29,30 @@ period-of-requires c κs = let t = product-tiles (c .before .before .product-ref
 mark-sums-requires : tie.Need-mark-sums-requires
 mark-sums-requires c κs = (product-outputs (c .before .before .before .before .before .before .before .before .args .p) (c .before .before .before .before .product-refusal .ensures) (c .before .before .before .if1 .left) (c .before .before .side .ensures) (c .before .period-of .ensures), unmarked)
 
+slice-aggregate-zero-map : tie.Need-slice-aggregate-zero-map
+slice-aggregate-zero-map c = search needs
+
 zero-map-requires : tie.Need-zero-map-requires
 zero-map-requires c κs = search needs
+
+enum-known-e : tie.Need-enum-known-e
+enum-known-e c = search needs
 
 enum-known-n : tie.Need-enum-known-n
 enum-known-n c = search needs
 
-enum-told : tie.Need-enum-told
-enum-told c = search needs
+add-sums-requires : tie.Need-add-sums-requires
+add-sums-requires c κs =
+    let k = c .before .before .before .before .before .before .before .before .before .before in
+    let p = k .before .before .before .before .before .before .before .before .before .before .before .before .before .before .args .p in
+    let j = k .before .before .before .before .before .before .before .before .before .before .product-refusal .ensures in
+    let z = k .before .before .before .before .before .before .before .before .before .if1 .left in
+    let s = k .before .before .before .before .before .before .before .before .side .ensures in
+    let e = k .before .before .before .before .before .before .before .period-of .ensures in
+    let m = k .before .before .before .before .before .mark-sums .ensures .marked (now (k .before .before .before .before .before .before .before .before .before .before .before .before .before .before .args .b)) in
+    let q = product-room p j z s e (now (k .before .before .before .before .before .before .before .before .before .before .before .before .before .before .args .pairs)) (now (k .before .before .before .before .before .before .before .before .before .before .before .before .before .before .args .values)) in
+    let w = k .zero-map .ensures in
+    product-summing p j z s e (zero-places modulus m (product-period p j z s e) (fit k) q w (c .before .before .before .n .given .1)) (zero-sums modulus m (product-period p j z s e) (fit k) q w (c .before .before .before .n .given .1))
 
 same-length : tie.Need-same-length
 same-length c = search needs
@@ -40,27 +62,15 @@ same-length-2 c = search needs
 
 returns-2 : tie.Need-returns-2
 returns-2 c =
-    let p = c .before .before .before .before .before .before .before .before .before .before .before .before .before .before .before .before .before .before .before .before .args .p in
-    let j = c .before .before .before .before .before .before .before .before .before .before .before .before .before .before .before .before .product-refusal .ensures in
-    let z = c .before .before .before .before .before .before .before .before .before .before .before .before .before .before .before .if1 .left in
-    let s = c .before .before .before .before .before .before .before .before .before .before .before .before .before .before .side .ensures in
-    let e = c .before .before .before .before .before .before .before .before .before .before .before .before .before .period-of .ensures in
-    let m = c .before .before .before .before .before .before .before .before .before .before .before .mark-sums .ensures .marked (c .before .before .before .before .before .before .before .before .before .before .before .before .before .before .before .before .before .before .before .before .args .b .now) in
-    let q = product-room p j z s e (c .before .before .before .before .before .before .before .before .before .before .before .before .before .before .before .before .before .before .before .before .args .pairs .now) (c .before .before .before .before .before .before .before .before .before .before .before .before .before .before .before .before .before .before .before .before .args .values .now) in
-    let w = c .before .before .before .before .before .before .zero-map .ensures in
-    product-written p j z s e (zero-refused m (product-period p j z s e) q w (c .enum-told .given .1))
-
-add-sums-requires : tie.Need-add-sums-requires
-add-sums-requires c κs =
-    let p = c .before .before .before .before .before .before .before .before .before .before .before .before .before .before .before .before .before .before .before .before .before .before .before .args .p in
-    let j = c .before .before .before .before .before .before .before .before .before .before .before .before .before .before .before .before .before .before .before .product-refusal .ensures in
-    let z = c .before .before .before .before .before .before .before .before .before .before .before .before .before .before .before .before .before .before .if1 .left in
-    let s = c .before .before .before .before .before .before .before .before .before .before .before .before .before .before .before .before .before .side .ensures in
-    let e = c .before .before .before .before .before .before .before .before .before .before .before .before .before .before .before .before .period-of .ensures in
-    let m = c .before .before .before .before .before .before .before .before .before .before .before .before .before .before .mark-sums .ensures .marked (c .before .before .before .before .before .before .before .before .before .before .before .before .before .before .before .before .before .before .before .before .before .before .before .args .b .now) in
-    let q = product-room p j z s e (c .before .before .before .before .before .before .before .before .before .before .before .before .before .before .before .before .before .before .before .before .before .before .before .args .pairs .now) (c .before .before .before .before .before .before .before .before .before .before .before .before .before .before .before .before .before .before .before .before .before .before .before .args .values .now) in
-    let w = c .before .before .before .before .before .before .before .before .before .zero-map .ensures in
-    product-summing p j z s e (zero-places m (product-period p j z s e) q w (c .before .before .before .n .given .1) (length-replicate {A = ℕ} 65536 0)) (zero-sums m (product-period p j z s e) q w (c .before .before .before .n .given .1))
+    let k = c .before .before .before .before .before .before .before .before in
+    let p = k .before .before .before .before .before .before .before .before .before .before .before .before .before .before .args .p in
+    let j = k .before .before .before .before .before .before .before .before .before .before .product-refusal .ensures in
+    let z = k .before .before .before .before .before .before .before .before .before .if1 .left in
+    let s = k .before .before .before .before .before .before .before .before .side .ensures in
+    let e = k .before .before .before .before .before .before .before .period-of .ensures in
+    let m = k .before .before .before .before .before .mark-sums .ensures .marked (now (k .before .before .before .before .before .before .before .before .before .before .before .before .before .before .args .b)) in
+    let q = product-room p j z s e (now (k .before .before .before .before .before .before .before .before .before .before .before .before .before .before .args .pairs)) (now (k .before .before .before .before .before .before .before .before .before .before .before .before .before .before .args .values)) in
+    product-written p j z s e (zero-refused modulus m (product-period p j z s e) (fit k) q (k .zero-map .ensures) (c .before .e .given .1))
 
 same-length-3 : tie.Need-same-length-3
 same-length-3 c = search needs
@@ -70,15 +80,15 @@ same-length-4 c = search needs
 
 returns-3 : tie.Need-returns-3
 returns-3 c =
-    let p = c .before .before .before .before .before .before .before .before .before .before .before .before .before .before .before .before .before .before .before .before .before .before .before .before .before .before .args .p in
-    let j = c .before .before .before .before .before .before .before .before .before .before .before .before .before .before .before .before .before .before .before .before .before .before .product-refusal .ensures in
-    let z = c .before .before .before .before .before .before .before .before .before .before .before .before .before .before .before .before .before .before .before .before .before .if1 .left in
-    let s = c .before .before .before .before .before .before .before .before .before .before .before .before .before .before .before .before .before .before .before .before .side .ensures in
-    let e = c .before .before .before .before .before .before .before .before .before .before .before .before .before .before .before .before .before .before .before .period-of .ensures in
-    let m = c .before .before .before .before .before .before .before .before .before .before .before .before .before .before .before .before .before .mark-sums .ensures .marked (c .before .before .before .before .before .before .before .before .before .before .before .before .before .before .before .before .before .before .before .before .before .before .before .before .before .before .args .b .now) in
-    let q = product-room p j z s e (c .before .before .before .before .before .before .before .before .before .before .before .before .before .before .before .before .before .before .before .before .before .before .before .before .before .before .args .pairs .now) (c .before .before .before .before .before .before .before .before .before .before .before .before .before .before .before .before .before .before .before .before .before .before .before .before .before .before .args .values .now) in
-    let w = c .before .before .before .before .before .before .before .before .before .before .before .before .zero-map .ensures in
-    product-written p j z s e (zero-written m (product-period p j z s e) q w (c .before .before .before .before .before .before .n .given .1) (c .before .before .add-sums .ensures))
+    let k = c .before .before .before .before .before .before .before .before .before .before .before .before .before in
+    let p = k .before .before .before .before .before .before .before .before .before .before .before .before .before .before .args .p in
+    let j = k .before .before .before .before .before .before .before .before .before .before .product-refusal .ensures in
+    let z = k .before .before .before .before .before .before .before .before .before .if1 .left in
+    let s = k .before .before .before .before .before .before .before .before .side .ensures in
+    let e = k .before .before .before .before .before .before .before .period-of .ensures in
+    let m = k .before .before .before .before .before .mark-sums .ensures .marked (now (k .before .before .before .before .before .before .before .before .before .before .before .before .before .before .args .b)) in
+    let q = product-room p j z s e (now (k .before .before .before .before .before .before .before .before .before .before .before .before .before .before .args .pairs)) (now (k .before .before .before .before .before .before .before .before .before .before .before .before .before .before .args .values)) in
+    product-written p j z s e (zero-written modulus m (product-period p j z s e) (fit k) q (k .zero-map .ensures) (c .before .before .before .before .before .before .n .given .1) (c .before .before .add-sums .ensures))
 
 pub product-map-spec : {M : Type 1} → statement M
 product-map-spec =
@@ -89,13 +99,14 @@ product-map-spec =
     side-requires
     period-of-requires
     mark-sums-requires
+    slice-aggregate-zero-map
     zero-map-requires
+    enum-known-e
     enum-known-n
-    enum-told
+    add-sums-requires
     same-length
     same-length-2
     returns-2
-    add-sums-requires
     same-length-3
     same-length-4
     returns-3)

@@ -49,8 +49,8 @@ rem-if3 c = search needs
 returns-3 : tie.Need-returns-3
 returns-3 c = written-refused (rw (slots-inside (c .before .before), ne-eqb _ _ (c .before .if2 .left), ne-eqb _ _ (c .if3 .taken))) (suc-ne-zero 3)
 
-has-no-room-requires : tie.Need-has-no-room-requires
-has-no-room-requires c κs = search needs
+room-refusal-requires : tie.Need-room-refusal-requires
+room-refusal-requires c κs = search needs
 
 -- past the tests of the length
 divides : (c : tie.Else3) → noPeriod (c .before .before .before .before .before .before .before .args .slots) (length (now (c .before .before .before .before .before .before .before .args .v))) ≡ false
@@ -65,19 +65,19 @@ small c =
     omega (arith, o .1, le-of-dvd (o .0) (dvd-of-mod-eq-zero (length (now (c .before .before .before .before .before .before .before .args .v))) (c .if3 .left)))
 
 returns-4 : tie.Need-returns-4
-returns-4 c = product-no-room _ _ _ _ _ (slots-inside (c .before .before .before .before)) (divides (c .before .before)) (c .before .has-no-room .ensures) (c .if4 .taken)
+returns-4 c = product-no-room _ _ _ _ _ (slots-inside (c .before .before .before .before)) (divides (c .before .before)) (c .before .room-refusal .ensures) (c .if4 .taken)
 
-cast-write-pair : tie.Need-cast-write-pair
-cast-write-pair c = omega (arith, small (c .before .before))
+cast-put-pair : tie.Need-cast-put-pair
+cast-put-pair c = omega (arith, small (c .before .before .before))
 
-write-pair-requires : tie.Need-write-pair-requires
-write-pair-requires c κs = c .before .before .has-no-room .ensures .pairs-fit (c .before .if4 .left)
+put-pair-requires : tie.Need-put-pair-requires
+put-pair-requires c κs = search needs
 
 slice-relend-prefix-rotate-slots-into : tie.Need-slice-relend-prefix-rotate-slots-into
-slice-relend-prefix-rotate-slots-into c = c .before .before .before .before .before .has-no-room .ensures .values-fit (c .before .before .before .before .if4 .left)
+slice-relend-prefix-rotate-slots-into c = c .before .before .before .before .before .room-refusal .ensures .values-fit (c .before .before .before .before .if4 .left)
 
 slice-aggregate-rotate-slots-into : tie.Need-slice-aggregate-rotate-slots-into
-slice-aggregate-rotate-slots-into c = sym (length-take-le _ _ (c .before .before .before .before .before .before .has-no-room .ensures .values-fit (c .before .before .before .before .before .if4 .left)))
+slice-aggregate-rotate-slots-into c = sym (length-take-le _ _ (c .before .before .before .before .before .before .room-refusal .ensures .values-fit (c .before .before .before .before .before .if4 .left)))
 
 rotate-slots-into-requires : tie.Need-rotate-slots-into-requires
 rotate-slots-into-requires c κs = search needs
@@ -92,9 +92,9 @@ returns-5 : tie.Need-returns-5
 returns-5 c =
     let s = c .before .before .before .before .before .before .before .before .before .before .before .before .before .before .before .before .before in
     let n = c .before .before .before .before .before .before .before .before .before in
-    product-written _ _ _ _ _ (slots-inside (c .before .before .before .before .before .before .before .before .before .before .before .before)) (divides (c .before .before .before .before .before .before .before .before .before .before)) (n .has-no-room .ensures) (c .before .before .before .before .before .before .before .before .if4 .left)
-    (c .before .before .before .before .before .before .write-pair .ensures)
-    (turned (now (s .args .v)) (s .args .rotation) _ _ _ (s .fits .rotation) (some (c .before .before .before .before .before .before .before .before .before .before)) (small (c .before .before .before .before .before .before .before .before .before .before)) (length-take-le _ _ (n .has-no-room .ensures .values-fit (c .before .before .before .before .before .before .before .before .if4 .left))) (c .before .before .rotate-slots-into .ensures))
+    product-written _ _ _ _ _ (slots-inside (c .before .before .before .before .before .before .before .before .before .before .before .before)) (divides (c .before .before .before .before .before .before .before .before .before .before)) (n .room-refusal .ensures) (c .before .before .before .before .before .before .before .before .if4 .left)
+    (c .before .before .before .before .before .before .put-pair .ensures)
+    (turned (now (s .args .v)) (s .args .rotation) _ _ _ (s .fits .rotation) (some (c .before .before .before .before .before .before .before .before .before .before)) (small (c .before .before .before .before .before .before .before .before .before .before)) (length-take-le _ _ (n .room-refusal .ensures .values-fit (c .before .before .before .before .before .before .before .before .if4 .left))) (c .before .before .rotate-slots-into .ensures))
     refl
 
 pub slot-product-spec : {M : Type 1} → statement M
@@ -106,10 +106,10 @@ slot-product-spec =
     returns-2
     rem-if3
     returns-3
-    has-no-room-requires
+    room-refusal-requires
     returns-4
-    cast-write-pair
-    write-pair-requires
+    cast-put-pair
+    put-pair-requires
     slice-relend-prefix-rotate-slots-into
     slice-aggregate-rotate-slots-into
     rotate-slots-into-requires

@@ -5,7 +5,7 @@ use mathlib.Core.Path.{_≡_}
 use native.Mathlib.Omega.{arith}
 use Rattle.ring.specs.Vectors.{Filling}
 use Rattle.ring.specs.Laws.Vectors.{filling-none, filling-more}
-use Rattle.maps.specs.RowSteps.{ones}
+use Rattle.maps.specs.Steps.Rows.{ones}
 use Rattle.maps.proofs.values.write_ones.Statement.{statement}
 use Rattle.maps.proofs.values.write_ones.Tie as tie
 

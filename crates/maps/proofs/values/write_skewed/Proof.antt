@@ -6,7 +6,7 @@ use native.Mathlib.Omega.{arith}
 use lib.ListN.{length, getD}
 use Rattle.ring.specs.Vectors.{Filling}
 use Rattle.ring.specs.Laws.Vectors.{filling-none, filling-more}
-use Rattle.maps.specs.ValueSteps.{skewedAt}
+use Rattle.maps.specs.Steps.Values.{skewedAt}
 use Rattle.maps.specs.Laws.Rows.{filled-upto}
 use Rattle.maps.specs.Laws.Skewing.{skewed-read}
 use Rattle.maps.proofs.values.write_skewed.Statement.{statement}

@@ -2,6 +2,7 @@
 use borrow.Author.Needs.{needs}
 use mathlib.Core.Path.{_≡_}
 use Prim.Native.Nat.{_-_}
+use native.Mathlib.Omega.{arith}
 use lib.ListN.{length}
 use Rattle.replay.proofs.showing.show_narrow_words.Statement.{statement}
 use Rattle.replay.proofs.showing.show_narrow_words.Tie as tie
@@ -15,14 +16,17 @@ abbrev μ-loop : tie.MeasureT-loop
 loop-holds : tie.Need-loop-holds Inv-loop μ-loop
 loop-holds c = search needs
 
-mul-show-next-narrow : tie.Need-mul-show-next-narrow Inv-loop μ-loop
-mul-show-next-narrow c = search needs
+mul-show-next : tie.Need-mul-show-next Inv-loop μ-loop
+mul-show-next c = search needs
 
-shared-slice-read-show-next-narrow : tie.Need-shared-slice-read-show-next-narrow Inv-loop μ-loop
-shared-slice-read-show-next-narrow c = search needs
+shared-slice-read-show-next : tie.Need-shared-slice-read-show-next Inv-loop μ-loop
+shared-slice-read-show-next c = search needs
 
-show-next-narrow-requires : tie.Need-show-next-narrow-requires Inv-loop μ-loop
-show-next-narrow-requires c κs = search needs
+cast-show-next : tie.Need-cast-show-next Inv-loop μ-loop
+cast-show-next c = omega (arith, c .shared-slice-known2 .given (c .before .before .loop .i))
+
+show-next-requires : tie.Need-show-next-requires Inv-loop μ-loop
+show-next-requires c κs = search needs
 
 add-i : tie.Need-add-i Inv-loop μ-loop
 add-i c = search needs
@@ -43,9 +47,10 @@ show-narrow-words-spec =
     Inv-loop
     μ-loop
     loop-holds
-    mul-show-next-narrow
-    shared-slice-read-show-next-narrow
-    show-next-narrow-requires
+    mul-show-next
+    shared-slice-read-show-next
+    cast-show-next
+    show-next-requires
     add-i
     loop-less
     loop-again

@@ -1,7 +1,6 @@
 -- `sibukyaran::matrices::sibukyaran_slot_product` meets its contract. Assumes nothing.
 use mir.Syntax.{w64}
 use mir.ValLaws.{toZ-ofZ}
-use Rattle.sibukyaran.proofs.Told.{map-told}
 use borrow.Author.Needs.{needs}
 use Rattle.sibukyaran.proofs.matrices.sibukyaran_slot_product.Statement.{statement}
 use Rattle.sibukyaran.proofs.matrices.sibukyaran_slot_product.Tie as tie
@@ -19,7 +18,13 @@ same-length-2 : tie.Need-same-length-2
 same-length-2 c = search needs
 
 returns : tie.Need-returns
-returns c = map-told (rw (toZ-ofZ w64 (c .before .before .before .before .before .before .before .before .before .before .before .args .rotation) (c .before .before .before .before .before .before .before .before .before .before .before .fits .rotation)) at (c .before .before .before .before .before .slot-product .ensures)) (c .numbers-of .ensures)
+returns c =
+    let s = c .before .before .before .before .before .before .before .before .before .before .before in
+    record {
+      answer = c .before .before .before .before .before .slot-product .result;
+      tells = c .numbers-of .ensures;
+      written = rw (toZ-ofZ w64 (s .args .rotation) (s .fits .rotation)) at (c .before .before .before .before .before .slot-product .ensures);
+    }
 
 pub sibukyaran-slot-product-spec : {M : Type 1} → statement M
 sibukyaran-slot-product-spec =

@@ -4,7 +4,7 @@ use lib.IntN.{ℤ}
 use mir.Syntax.{w64}
 use mir.ValLaws.{toZ-ofZ}
 use Rattle.ring.specs.Answers.{numbers, answered}
-use Rattle.linear_transformation.specs.Rotations.{babyMultiple}
+use Rattle.linear_transformation.specs.Listed.{babyMultiple}
 use Rattle.linear_transformation.specs.Calls.{babyRefusal}
 use borrow.Author.Needs.{needs}
 use Rattle.sibukyaran.proofs.plans.sibukyaran_baby_multiple.Statement.{statement}

@@ -1,7 +1,6 @@
 -- `sibukyaran::store::sibukyaran_set` meets its contract. Assumes nothing.
 use mir.Syntax.{w64}
 use mir.ValLaws.{toZ-ofZ}
-use Rattle.sibukyaran.proofs.Told.{map-told}
 use borrow.Author.Needs.{needs}
 use Rattle.sibukyaran.proofs.store.sibukyaran_set.Statement.{statement}
 use Rattle.sibukyaran.proofs.store.sibukyaran_set.Tie as tie
@@ -19,7 +18,13 @@ same-length-2 : tie.Need-same-length-2
 same-length-2 c = search needs
 
 returns : tie.Need-returns
-returns c = map-told (rw (toZ-ofZ w64 (c .before .before .before .before .before .before .before .before .before .before .before .args .index) (c .before .before .before .before .before .before .before .before .before .before .before .fits .index)) at (c .before .before .before .before .before .set .ensures)) (c .numbers-of .ensures)
+returns c =
+    let s = c .before .before .before .before .before .before .before .before .before .before .before in
+    record {
+      answer = c .before .before .before .before .before .set .result;
+      tells = c .numbers-of .ensures;
+      written = rw (toZ-ofZ w64 (s .args .index) (s .fits .index)) at (c .before .before .before .before .before .set .ensures);
+    }
 
 pub sibukyaran-set-spec : {M : Type 1} → statement M
 sibukyaran-set-spec =

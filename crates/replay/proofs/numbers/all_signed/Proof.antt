@@ -1,0 +1,56 @@
+-- `replay::numbers::all_signed` meets its contract. Assumes nothing.
+use borrow.Author.Needs.{needs}
+use mathlib.Core.Path.{_≡_}
+use Prim.Native.Nat.{_-_}
+use lib.ListN.{length}
+use Rattle.replay.proofs.numbers.all_signed.Statement.{statement}
+use Rattle.replay.proofs.numbers.all_signed.Tie as tie
+
+abbrev Inv-loop : tie.InvT-loop
+Inv-loop words out₀ i₀ out i = length out ≡ 512
+
+abbrev μ-loop : tie.MeasureT-loop
+μ-loop words out₀ i₀ out i = 512 - i
+
+loop-holds : tie.Need-loop-holds Inv-loop μ-loop
+loop-holds c = search needs
+
+word-at-requires : tie.Need-word-at-requires Inv-loop μ-loop
+word-at-requires c κs = search needs
+
+signed-requires : tie.Need-signed-requires Inv-loop μ-loop
+signed-requires c κs = search needs
+
+mul-out : tie.Need-mul-out Inv-loop μ-loop
+mul-out c = search needs
+
+array-set-from-out : tie.Need-array-set-from-out Inv-loop μ-loop
+array-set-from-out c = search needs
+
+add-i : tie.Need-add-i Inv-loop μ-loop
+add-i c = search needs
+
+loop-less : tie.Need-loop-less Inv-loop μ-loop
+loop-less c = search needs
+
+loop-again : tie.Need-loop-again Inv-loop μ-loop
+loop-again c = search needs
+
+returns : tie.Need-returns Inv-loop μ-loop
+returns c = search needs
+
+pub all-signed-spec : {M : Type 1} → statement M
+all-signed-spec =
+    tie.close
+    (tie.spec
+    Inv-loop
+    μ-loop
+    loop-holds
+    word-at-requires
+    signed-requires
+    mul-out
+    array-set-from-out
+    add-i
+    loop-less
+    loop-again
+    returns)
