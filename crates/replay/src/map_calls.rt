@@ -31,17 +31,13 @@ fn list_at(code: u64) -> usize {
     }
 }
 
-fn list_length(code: u64, h: Head) -> usize {
-    match code {
+pub(crate) fn show_map_call(code: u64, h: Head, words: &[u64]) {
+    let list = rest(words, list_at(code));
+    let n = match code {
         8 => h.n1,
         13 => h.n3,
         _ => 0,
-    }
-}
-
-pub(crate) fn show_map_call(code: u64, h: Head, words: &[u64]) {
-    let list = rest(words, list_at(code));
-    let n = list_length(code, h);
+    };
     let map = rest(list, n);
     let m = head_of(map);
     let lists = rest(map, 4);
@@ -110,11 +106,23 @@ fn show_indexes(n: usize, m: Head, pairs: &[u32], values: &[u64]) {
 fn show_made(code: u64, h: Head, m: Head, pairs: &[u32], values: &[u64]) {
     let mut pairs_out = [7u32; 512];
     let mut values_out = [7u64; 512];
-    let p = narrow_lent(&mut pairs_out, h.n0);
-    let v = lent(&mut values_out, h.n1);
     let a = match code {
-        11 => diagonals::shrink_period(m.n0, m.n1, pairs, values, p, v),
-        _ => diagonals::transpose(m.n0, m.n1, pairs, values, p, v),
+        11 => diagonals::shrink_period(
+            m.n0,
+            m.n1,
+            pairs,
+            values,
+            narrow_lent(&mut pairs_out, h.n0),
+            lent(&mut values_out, h.n1),
+        ),
+        _ => diagonals::transpose(
+            m.n0,
+            m.n1,
+            pairs,
+            values,
+            narrow_lent(&mut pairs_out, h.n0),
+            lent(&mut values_out, h.n1),
+        ),
     };
     show_written(a, pairs_out, h.n0, values_out, h.n1);
 }

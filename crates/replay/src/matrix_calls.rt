@@ -9,16 +9,12 @@ use crate::words::lent;
 use crate::words::narrow_front;
 use crate::words::rest;
 
-fn count_of(a: ring::Answer) -> usize {
-    match a {
-        ring::Answer::Refused(e) => 0,
-        ring::Answer::Is(n) => n,
-    }
-}
-
 // The diagonals have one stored length. Nothing wraps, for the map fits the room.
 fn show_map(a: ring::Answer, pairs: [u32; 64], values: [u64; 512]) {
-    let n = count_of(a);
+    let n = match a {
+        ring::Answer::Refused(e) => 0,
+        ring::Answer::Is(n) => n,
+    };
     show_answer(a);
     show_narrow_words(narrow_front(&pairs, std::num::wrapping_add_usize(n, n)));
     show_out(

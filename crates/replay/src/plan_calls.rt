@@ -76,15 +76,6 @@ fn show_steps(
     show_listed(a, out, h.n3);
 }
 
-// Where the list of a call of rotations begins: behind these and the lengths of what is written.
-fn list_at(code: u64) -> usize {
-    match code {
-        30 => 6,
-        31 => 7,
-        _ => 5,
-    }
-}
-
 fn rotations(h: Head) -> linear_transformation::BsgsRotations {
     let kind = h.w0;
     match kind {
@@ -104,7 +95,12 @@ fn rotations(h: Head) -> linear_transformation::BsgsRotations {
 
 // The head is rotations (kind, baby step, giant step, slots) and the lengths of what is written.
 pub(crate) fn show_rotations_call(code: u64, h: Head, words: &[u64]) {
-    let babies = rest(words, list_at(code));
+    let at = match code {
+        30 => 6,
+        31 => 7,
+        _ => 5,
+    };
+    let babies = rest(words, at);
     let list = all_signed(babies);
     show_by_rotations(code, h, signed_front(&list, babies.len()));
 }

@@ -17,11 +17,9 @@ pub struct Sample {
 
 /// What crates/replay has room for.
 const LONGEST_TEXT: usize = 262_144;
-const MOST_WORDS: usize = 4_096;
 
 impl Sample {
     pub fn call(&mut self, code: u64, words: &[u64], answer: &[u64]) {
-        assert!(words.len() <= MOST_WORDS, "a call of too many words");
         write!(self.calls, "{code} {}", words.len()).unwrap();
         words.iter().for_each(|w| write!(self.calls, " {w}").unwrap());
         self.calls.push('\n');
