@@ -4,7 +4,7 @@ use Prim.Native.Nat.{ℕ, _+_, _*_, _%_}
 use mathlib.Core.Bool.{Bool, false, cond, _&&_, _||_}
 use mathlib.Core.List.{List, [], _∷_, map}
 use lib.Dec.{eqb, ltb}
-use lib.IntN.{pos, _-ℤ_}
+use lib.IntN.{ℤ, pos, _-ℤ_}
 use lib.ListN.{length, getD}
 use Rattle.ring.specs.Slots.{mulm}
 use Rattle.ring.specs.Lists.{sumBy}
@@ -27,9 +27,13 @@ termsOf is js ws = tabulate (length is) (λ t. record { i = getD is t 0; j = get
 unfoldable pub inRange : ℕ → ℕ → List ℕ → List ℕ → Bool
 inRange slots period is js = every (λ t. ltb (getD is t 0) period && ltb (getD js t 0) slots) (length is)
 
+-- how far from its output a term reads: j - i
+abbrev pub difference : Term → ℤ
+difference t = pos (t .j) -ℤ pos (t .i)
+
 -- the diagonal (j - i) mod slots that a term reaches
 abbrev pub offsetOf : ℕ → Term → ℕ
-offsetOf slots t = residueOf (pos (t .j) -ℤ pos (t .i)) slots
+offsetOf slots t = residueOf (difference t) slots
 
 -- some term reaches diagonal k
 abbrev pub reached : ℕ → List Term → ℕ → Bool

@@ -39,7 +39,7 @@ ghost use Rattle.ring.specs.Searches.{every};
 ghost use Rattle.diagonals.specs.Maps.{pairRoom, startAt, formedAt};
 ghost use Rattle.diagonals.specs.Calls.{Judged};
 ghost use Rattle.diagonals.specs.Steps.Writing.{spin, Appending, Appended};
-ghost use Rattle.diagonals.specs.Steps.Reading.{Divisor, Placed};
+ghost use Rattle.diagonals.specs.Steps.Reading.{Divisor, NoPeriod, Placed};
 
 // Whether len is at least 1 and divides slots. Most lengths of a map are that of the diagonal
 // before, which divides, so the remainder is seldom taken.
@@ -54,6 +54,16 @@ fn is_period(slots: u32, last: u32, len: u32) -> bool
         return false;
     }
     slots % len == 0
+}
+
+// Whether len is 0 or no divisor of slots: the test of refusal 4.
+fn is_no_period(slots: usize, len: usize) -> bool
+    ensures { λ r. ⌜ NoPeriod slots len r ⌝ }
+{
+    if len == 0 {
+        return true;
+    }
+    slots % len != 0
 }
 
 // Whether each of `count` stored diagonals is well formed, with rising offsets.

@@ -5,18 +5,8 @@ ghost use lib.ListN.{length, drop};
 ghost use lib.Seq.{paste};
 ghost use Rattle.diagonals.specs.Maps.{pairRoom, startAt};
 ghost use Rattle.diagonals.specs.Calls.{SetWritten};
-ghost use Rattle.diagonals.specs.Steps.Setting.{NoPeriod, InOrder, Changed, Spliceable, spliced, PairSpliceable, PairSpliced};
+ghost use Rattle.diagonals.specs.Steps.Setting.{InOrder, Changed, Spliceable, spliced, PairSpliceable, PairSpliced};
 ghost use Rattle.diagonals.specs.Steps.Reading.{Placed};
-
-// Whether len is 0 or no divisor of slots: the test of refusal 4.
-pub(crate) fn is_no_period(slots: usize, len: usize) -> bool
-    ensures { λ r. ⌜ NoPeriod slots len r ⌝ }
-{
-    if len == 0 {
-        return true;
-    }
-    slots % len != 0
-}
 
 // ---- what changes
 
@@ -204,7 +194,7 @@ pub fn set(
         return ring::Answer::Refused(code);
     }
     let len = new.len();
-    if is_no_period(slots, len) {
+    if crate::is_no_period(slots, len) {
         return ring::Answer::Refused(4);
     }
     let k = ring::residue(index, slots as u32);

@@ -19,7 +19,7 @@ use Rattle.diagonals.specs.Laws.Calls.{written-refused}
 use Rattle.diagonals.specs.Building.{PlacesOf, SumsOf}
 use Rattle.maps.specs.declared.rules.Rule.{Rule}
 use Rattle.maps.specs.Readings.{ruleTerms, wholeMap}
-use Rattle.maps.specs.Calls.{noMatrices, ruleRefusal, productRefusal}
+use Rattle.maps.specs.Calls.{noMatrices, ruleRefusal, productRefusal, ProductWritten}
 use Rattle.maps.specs.Steps.Tiles.{Tiling, TilesJudged}
 use Rattle.maps.specs.Laws.Tiling.{some-squared, tiling, tiles-first, tiles-later}
 use Rattle.maps.specs.Sums.{periodOf, productMap}
@@ -101,7 +101,7 @@ module _ {slots logD count r d : ℕ} (b : List ℕ) (t : TilesJudged slots logD
       }
 
 pub product-refused : {slots logD count r : ℕ} {b : List ℕ} (p : Product) (pairs values : List ℕ) → ProductJudged slots logD count b r → (r ≡ 0 → ⊥)
-    → MapWritten (productRefusal slots logD count p b pairs values) (productMap modulus slots (2 ^ logD) count p b) pairs pairs values values (Refused r)
+    → ProductWritten slots logD count p b pairs pairs values values (Refused r)
 product-refused {slots} {logD} {count} {r} {b} p pairs values j n =
     written-refused (j .answer ∙ sym (first-refused (productRefusals slots logD count b) (mapRoom (productMap modulus slots (2 ^ logD) count p b) pairs values) (λ h. n (j .answer ∙ h)))) n
 

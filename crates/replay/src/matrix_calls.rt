@@ -17,10 +17,8 @@ fn show_map(a: ring::Answer, pairs: [u32; 64], values: [u64; 512]) {
     };
     show_answer(a);
     show_narrow_words(narrow_front(&pairs, std::num::wrapping_add_usize(n, n)));
-    show_out(
-        values,
-        ring::wrapping_mul(n as u64, pairs[1] as u64) as usize,
-    );
+    let len = diagonals::length_at(&pairs, 0);
+    show_out(values, ring::wrapping_mul(n as u64, len as u64) as usize);
 }
 
 // The maps of code 32 that take no shift.

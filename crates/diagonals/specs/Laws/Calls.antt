@@ -16,7 +16,7 @@ use Rattle.ring.specs.Laws.Refusals.{onAccept-refused, onAccept-accepted, first
 use Rattle.ring.specs.Laws.Answers.{answered-refused, answered-accepted, no-refused}
 use Rattle.diagonals.specs.declared.reading.Test.the-variants.{Refused, Is}
 use Rattle.diagonals.specs.Maps.{Diagonal, offsetAt, wellFormed, pairWords, valueWords, pairRoom}
-use Rattle.diagonals.specs.Calls.{mapRefusals, mapRefusal, Judged, truths, tested, MapWritten, indexesRefusal, Indexes, mapRoom, RoomJudged, secondRefusal}
+use Rattle.diagonals.specs.Calls.{mapRefusals, mapRefusal, Judged, truths, tested, MapWritten, indexesRefusal, Indexes, mapRoom, RoomJudged, SecondWritten}
 use Rattle.diagonals.specs.Laws.Maps.{formed-means, offsets-view}
 
 module _ {slots count : ℕ} {pairs values : List ℕ} where
@@ -113,7 +113,7 @@ module _ {slots count : ℕ} {pairs values old : List ℕ} {r : ℕ} (j : Judged
 -- a call that is lent a map and writes another: the map is refused, there is no room, the other is written
 module _ {slots count : ℕ} {pairs values : List ℕ} {r : ℕ} (j : Judged slots count pairs values r) (ds : List Diagonal) (pairs₂ values₂ : List ℕ) where
   abbrev Second : List ℕ → List ℕ → Answer → Type 0
-  Second p v a = MapWritten (secondRefusal slots count pairs values ds pairs₂ values₂) ds pairs₂ p values₂ v a
+  Second p v a = SecondWritten slots count pairs values ds pairs₂ p values₂ v a
 
   pub second-map-refused : (r ≡ 0 → ⊥) → Second pairs₂ values₂ (Answer.Refused r)
   second-map-refused h = written-refused (then-refused j (mapRoom ds pairs₂ values₂) h) h

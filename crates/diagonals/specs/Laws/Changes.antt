@@ -21,7 +21,7 @@ use Rattle.diagonals.specs.declared.setting.Change.{Change}
 use Rattle.diagonals.specs.Maps.{Diagonal, pairRoom, offsetAt, pairOf, pairWords, valueWords, startAt, diagonalAt, view, WellFormed}
 use Rattle.diagonals.specs.Laws.Pairs.{room-add, room-mono}
 use Rattle.diagonals.specs.Setting.{placed}
-use Rattle.diagonals.specs.Calls.{Judged, mapRoom, RoomJudged, MapWritten, setMap, setRefusal}
+use Rattle.diagonals.specs.Calls.{Judged, mapRoom, RoomJudged, MapWritten, setMap, setRefusal, SetWritten}
 use Rattle.diagonals.specs.Steps.Setting.{InOrder, Changed, Spliceable, spliced}
 use Rattle.diagonals.specs.Steps.Reading.{Placed}
 use Rattle.diagonals.specs.Laws.Maps.{start-mono, values-inside, count-low, length-view, each-view}
@@ -188,10 +188,10 @@ module _ {slots count : ℕ} {pairs values : List ℕ} {code : ℕ} (j : Judged 
   abbrev later : List (Bool × ℕ)
   later = (noPeriod slots (length vs), 4) ∷ mapRoom (setMap slots count pairs values index vs) pairs values
 
-  pub refused-map : (code ≡ 0 → ⊥) → MapWritten (setRefusal slots count pairs values index vs) (setMap slots count pairs values index vs) pairs pairs values values (Refused code)
+  pub refused-map : (code ≡ 0 → ⊥) → SetWritten slots count pairs pairs values values index vs (Refused code)
   refused-map h = written-refused (then-refused j later h) h
 
-  pub refused-period : code ≡ 0 → noPeriod slots (length vs) ≡ true → MapWritten (setRefusal slots count pairs values index vs) (setMap slots count pairs values index vs) pairs pairs values values (Refused 4)
+  pub refused-period : code ≡ 0 → noPeriod slots (length vs) ≡ true → SetWritten slots count pairs pairs values values index vs (Refused 4)
   refused-period z p = written-refused (sym (then-later j later z ∙ rw p)) (suc-ne-zero 3)
 
   pub decided : code ≡ 0 → noPeriod slots (length vs) ≡ false → {k : ℕ} {r : Change} → k ≡ residueOf index slots → Changed count pairs k (length vs) r → Decided slots count pairs values index vs k r

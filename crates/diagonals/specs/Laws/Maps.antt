@@ -2,13 +2,13 @@
 -- Assumes nothing.
 use Prim.Native.Nat.{ℕ, zero, suc, _+_, _≤_, _<_, _∣_}
 use mathlib.Core.Path.{_≡_, refl, sym, ap, _∙_}
-use mathlib.Core.Bool.{Bool, true, false, _&&_}
+use mathlib.Core.Bool.{Bool, true, _&&_}
 use mathlib.Core.List.{List, [], _∷_, _++_, map}
 use mathlib.Core.Logic.{_⊎_, inl, inr, ⊎-elim}
 use native.Mathlib.Nat.{eq-or-lt-of-le, not-suc-le-zero, le-of-suc-le-suc, le-of-eq, le-trans}
 use native.Mathlib.Numerals.{add-one}
 use native.Mathlib.Omega.{arith}
-use borrow.Author.Tests.{eq-eqb, ne-eqb, eqb-true, lt-ltb, le-ltb, le-leb, ltb-true, leb-true}
+use borrow.Author.Tests.{eq-eqb, ne-eqb, eqb-true, lt-ltb, le-leb, ltb-true, leb-true}
 use lib.Dec.{leb, ltb, eqb}
 use lib.ListN.{length, take, drop, length-take, length-drop}
 use Rattle.ring.specs.Vectors.{tabulate}
@@ -19,7 +19,7 @@ use Rattle.ring.specs.Laws.Lists.{each-tabulate}
 use Rattle.ring.specs.Divisors.{divides}
 use Rattle.ring.specs.Laws.Searches.{both, first, second, lt-or-ge, every-at}
 use Rattle.ring.specs.Laws.Divisors.{divides-dvd, divides-yes}
-use Rattle.diagonals.specs.Maps.{Diagonal, pairRoom, offsetAt, lengthAt, startAt, diagonalAt, view, formedAs, formedAt, risesAt, wellFormed, Formed, WellFormed}
+use Rattle.diagonals.specs.Maps.{Diagonal, offsetsOf, pairRoom, offsetAt, lengthAt, startAt, diagonalAt, view, formedAs, formedAt, risesAt, wellFormed, Formed, WellFormed}
 use Rattle.diagonals.specs.Products.{stretch}
 use Rattle.diagonals.specs.Steps.Reading.{Placed}
 
@@ -100,7 +100,7 @@ unfolding view
 each-view P n pairs values h = each-tabulate P n (diagonalAt pairs values) h
 
 -- the offsets of the view
-pub offsets-view : (count : ℕ) (pairs values : List ℕ) → map (λ d. d .offset) (view count pairs values) ≡ tabulate count (offsetAt pairs)
+pub offsets-view : (count : ℕ) (pairs values : List ℕ) → offsetsOf (view count pairs values) ≡ tabulate count (offsetAt pairs)
 unfolding view
 offsets-view count pairs values = map-tabulate (λ d. d .offset) count (diagonalAt pairs values)
 
@@ -114,10 +114,6 @@ nextOf pairs (suc i) = suc (offsetAt pairs i)
 pub rises-yes : (pairs : List ℕ) (i : ℕ) → nextOf pairs i ≤ offsetAt pairs i → risesAt pairs i ≡ true
 rises-yes pairs zero h = refl
 rises-yes pairs (suc i) h = lt-ltb _ _ h
-
-pub rises-no : (pairs : List ℕ) (i : ℕ) → offsetAt pairs i < nextOf pairs i → risesAt pairs i ≡ false
-rises-no pairs zero h = absurd (not-suc-le-zero h)
-rises-no pairs (suc i) h = le-ltb _ _ (le-of-suc-le-suc h)
 
 pub rises-at : (pairs : List ℕ) (i : ℕ) → risesAt pairs i ≡ true → nextOf pairs i ≤ offsetAt pairs i
 rises-at pairs zero h = omega arith

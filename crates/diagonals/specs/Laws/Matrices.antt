@@ -17,7 +17,7 @@ use Rattle.ring.specs.Laws.Lists.{each-then, each-tabulate, each-reverse, map-e
 use Rattle.ring.specs.Laws.Vectors.{length-tabulate, getD-tabulate}
 use Rattle.ring.specs.Laws.Searches.{eqb-same}
 use Rattle.ring.specs.Laws.Below.{sum-one}
-use Rattle.diagonals.specs.Maps.{Diagonal, Formed, FormedMap}
+use Rattle.diagonals.specs.Maps.{Diagonal, offsetsOf, Formed, FormedMap}
 use Rattle.diagonals.specs.Products.{cell, stretch, matrix, term, product, dot}
 
 -- ---- which values an offset finds
@@ -59,11 +59,11 @@ module _ (k : ℕ) where
   stretch-before (x ∷ xs) d e = ap (cond (eqb (x .offset) k) (x .values)) (stretch-before xs d e)
 
   -- offsets above one that is k are not k
-  pub above-absent : (d : Diagonal) (ds : List Diagonal) → d .offset ≡ k → Rising (map (λ d. d .offset) (d ∷ ds)) → Each (λ e. e .offset ≡ k → ⊥) ds
+  pub above-absent : (d : Diagonal) (ds : List Diagonal) → d .offset ≡ k → Rising (offsetsOf (d ∷ ds)) → Each (λ e. e .offset ≡ k → ⊥) ds
   above-absent d ds e r = each-then (λ x l q. omega arith) ds (map-each (λ y. d .offset < y) (λ (x : Diagonal). x .offset) ds (r .0))
 
   -- the order does not count where offsets are distinct
-  pub stretch-reverse : (ds : List Diagonal) → Rising (map (λ d. d .offset) ds) → stretch (reverse ds) k ≡ stretch ds k
+  pub stretch-reverse : (ds : List Diagonal) → Rising (offsetsOf ds) → stretch (reverse ds) k ≡ stretch ds k
   stretch-reverse [] r = refl
   stretch-reverse (d ∷ ds) r = ap (λ (t : List Diagonal). stretch t k) (reverse-cons d ds) ∙ by (stretch-reverse ds (r .1)) (eqb (d .offset) k) refl
     where
@@ -121,7 +121,7 @@ module _ (m slots i : ℕ) (input : List ℕ) (l : i < slots) where
   part d j = cond (eqb (d .offset) (meets slots i j)) (mulm m (cell (d .values) i) (getD input j 0)) 0
 
   -- the entry in column j is that of the first diagonal or that of the others
-  entry : (d : Diagonal) (ds : List Diagonal) → Rising (map (λ d. d .offset) (d ∷ ds)) → (j : ℕ) → mulm m (matrix slots (d ∷ ds) i j) (getD input j 0) ≡ addm m (part d j) (mulm m (matrix slots ds i j) (getD input j 0))
+  entry : (d : Diagonal) (ds : List Diagonal) → Rising (offsetsOf (d ∷ ds)) → (j : ℕ) → mulm m (matrix slots (d ∷ ds) i j) (getD input j 0) ≡ addm m (part d j) (mulm m (matrix slots ds i j) (getD input j 0))
   unfolding matrix
   entry d ds r j = by (eqb (d .offset) (meets slots i j)) refl
     where
@@ -143,7 +143,7 @@ module _ (m slots i : ℕ) (input : List ℕ) (l : i < slots) where
       by j true e = ap (λ (x : ℕ). mulm m (cell (d .values) i) (getD input x 0)) (sym (eqb-true _ _ e))
       by j false e = refl
 
-  by-diagonals : (ds : List Diagonal) → Each (λ d. d .offset < slots) ds → Rising (map (λ d. d .offset) ds) → product m slots ds input i ≡ dot m slots (matrix slots ds i) input
+  by-diagonals : (ds : List Diagonal) → Each (λ d. d .offset < slots) ds → Rising (offsetsOf ds) → product m slots ds input i ≡ dot m slots (matrix slots ds i) input
   unfolding product matrix
   by-diagonals [] h r = sym (sumBy-cong m (λ j. mulm m 0 (getD input j 0)) (λ j. 0) (λ j. zero-mulm m (getD input j 0)) (tabulate slots (λ j. j)) ∙ sumBy-zero m (tabulate slots (λ j. j)))
   by-diagonals (d ∷ ds) h r =

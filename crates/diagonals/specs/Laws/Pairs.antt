@@ -29,11 +29,6 @@ pub room-mono : (m n : ℕ) → m ≤ n → pairRoom m ≤ pairRoom n
 unfolding pairRoom
 room-mono m n h = omega arith
 
--- pairs are fewer than their words
-pub room-above : (n : ℕ) → n ≤ pairRoom n
-unfolding pairRoom
-room-above n = omega arith
-
 -- as many pairs fit as there are halves
 pub room-halves : (n len : ℕ) → leb n (len / 2) ≡ leb (pairRoom n) len
 unfolding pairRoom

@@ -14,7 +14,7 @@ use lib.ListN.{length}
 use Rattle.ring.specs.Lists.{Each, Rising}
 use Rattle.ring.specs.Vectors.{inFront}
 use Rattle.ring.specs.Laws.Lists.{each-then, each-map, map-each}
-use Rattle.diagonals.specs.Maps.{Diagonal, view, Formed, WellFormed, pairWords, valueWords, FormedMap, pairRoom}
+use Rattle.diagonals.specs.Maps.{Diagonal, offsetsOf, view, Formed, WellFormed, pairWords, valueWords, FormedMap, pairRoom}
 use Rattle.diagonals.specs.Products.{stretch}
 use Rattle.diagonals.specs.Setting.{placed}
 use Rattle.diagonals.specs.Laws.Words.{formed-view, words-formed}
@@ -77,14 +77,14 @@ module _ (k : ℕ) (vs : List ℕ) where
       by-side h (equal q) = rw (placed-equal d ds q) (new, e .1)
       by-side h (above l) = rw (placed-above d ds l) (new, e)
 
-  placed-rising : (ds : List Diagonal) → Rising (map (λ d. d .offset) ds) → Rising (map (λ d. d .offset) (placed k vs ds))
+  placed-rising : (ds : List Diagonal) → Rising (offsetsOf ds) → Rising (offsetsOf (placed k vs ds))
   placed-rising [] r = (tt, tt)
   placed-rising (d ∷ ds) r = by-side (placed-rising ds (r .1)) (side (d .offset) k)
     where
-      by-side : Rising (map (λ d. d .offset) (placed k vs ds)) → Side (d .offset) k → Rising (map (λ d. d .offset) (placed k vs (d ∷ ds)))
+      by-side : Rising (offsetsOf (placed k vs ds)) → Side (d .offset) k → Rising (offsetsOf (placed k vs (d ∷ ds)))
       by-side h (below l) = rw (placed-below d ds l) (each-map (λ y. d .offset < y) (λ (x : Diagonal). x .offset) (placed k vs ds) (placed-each (λ e. d .offset < e .offset) l ds (map-each (λ y. d .offset < y) (λ (x : Diagonal). x .offset) ds (r .0))), h)
       by-side h (equal e) = rw (placed-equal d ds e, ← e) r
-      by-side h (above l) = rw (placed-above d ds l) ((l, each-then (λ x m. omega arith) (map (λ d. d .offset) ds) (r .0)), r)
+      by-side h (above l) = rw (placed-above d ds l) ((l, each-then (λ x m. omega arith) (offsetsOf ds) (r .0)), r)
 
   -- setting keeps a map well formed
   pub placed-formed : (slots : ℕ) (ds : List Diagonal) → Formed slots (record { offset = k; values = vs }) → FormedMap slots ds → FormedMap slots (placed k vs ds)

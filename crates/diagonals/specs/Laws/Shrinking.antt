@@ -12,7 +12,7 @@ use Rattle.ring.specs.Laws.Lists.{each-then, each-both, each-map, map-each}
 use Rattle.ring.specs.Laws.Vectors.{length-tabulate}
 use Rattle.ring.specs.Laws.Divisors.{lcmAll-pos, lcmAll-most, lcmAll-multiple}
 use Rattle.ring.specs.Laws.Periods.{positive, around-multiple, min-is, min-shift}
-use Rattle.diagonals.specs.Maps.{Diagonal, Formed, FormedMap}
+use Rattle.diagonals.specs.Maps.{Diagonal, offsetsOf, Formed, FormedMap}
 use Rattle.diagonals.specs.Products.{cell, matrix, product}
 use Rattle.diagonals.specs.Shrinking.{commonPeriod, atPeriod, shrunk}
 use Rattle.diagonals.specs.Laws.Matrices.{cell-tabulate, stretch-alike, formed-some, Alike, alike-matrix, alike-product}
@@ -71,12 +71,12 @@ module _ (ds : List Diagonal) (some : Each (λ d. 1 ≤ length (d .values)) ds) 
 
 -- ---- well-formed maps
 
-offsets-kept : (p : ℕ) (ds : List Diagonal) → map (λ (d : Diagonal). d .offset) (map (atPeriod p) ds) ≡ map (λ (d : Diagonal). d .offset) ds
+offsets-kept : (p : ℕ) (ds : List Diagonal) → offsetsOf (map (atPeriod p) ds) ≡ offsetsOf ds
 offsets-kept p [] = refl
 offsets-kept p (d ∷ ds) = ap (λ (t : List ℕ). d .offset ∷ t) (offsets-kept p ds)
 
 -- shrinking keeps the offsets
-pub shrunk-offsets : (ds : List Diagonal) → map (λ (d : Diagonal). d .offset) (shrunk ds) ≡ map (λ (d : Diagonal). d .offset) ds
+pub shrunk-offsets : (ds : List Diagonal) → offsetsOf (shrunk ds) ≡ offsetsOf ds
 unfolding shrunk
 shrunk-offsets ds = offsets-kept (commonPeriod ds) ds
 

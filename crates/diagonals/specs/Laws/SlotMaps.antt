@@ -20,10 +20,10 @@ use Rattle.ring.specs.Laws.Lists.{each-all, each-then, each-map, each-both, sum
 use Rattle.ring.specs.Laws.Vectors.{length-tabulate, getD-tabulate, join-tables}
 use Rattle.ring.specs.Laws.Residues.{residue-add, residue-pos, residue-lt}
 use Rattle.ring.specs.Laws.Below.{below-ext, below-low, below-rising, sum-below-one}
-use Rattle.diagonals.specs.Maps.{Diagonal, pairOf, pairWords, valueWords, FormedMap}
+use Rattle.diagonals.specs.Maps.{Diagonal, offsetsOf, pairOf, pairWords, valueWords, FormedMap}
 use Rattle.diagonals.specs.Laws.Pairs.{pair-alike}
 use Rattle.diagonals.specs.Products.{cell, term, product}
-use Rattle.diagonals.specs.SlotMaps.{Term, termsOf, offsetOf, reached, weight, gathered, rank, slotMap, zerosAt, zeroMap, slotSum}
+use Rattle.diagonals.specs.SlotMaps.{Term, termsOf, difference, offsetOf, reached, weight, gathered, rank, slotMap, zerosAt, zeroMap, slotSum}
 use Rattle.diagonals.specs.Building.{sumAt}
 
 -- ---- the terms of three lists
@@ -41,10 +41,6 @@ module _ (is js ws : List ℕ) where
   term-at t d l = getD-tabulate (length is) (termAt is js ws) t d l
 
 -- ---- which diagonals are reached
-
--- how far a term reads from its output
-abbrev pub difference : Term → ℤ
-difference t = pos (t .j) -ℤ pos (t .i)
 
 module _ (slots : ℕ) where
   -- those that the differences name
@@ -79,17 +75,17 @@ module _ (m slots period : ℕ) (ts : List Term) where
   unfolding slotMap
   slotMap-count = length-map offsets (gathered m slots period ts)
 
-  offsets-of : (ks : List ℕ) → map (λ (d : Diagonal). d .offset) (map (gathered m slots period ts) ks) ≡ ks
+  offsets-of : (ks : List ℕ) → offsetsOf (map (gathered m slots period ts) ks) ≡ ks
   offsets-of [] = refl
   offsets-of (k ∷ ks) = ap (λ (t : List ℕ). k ∷ t) (offsets-of ks)
 
   -- they are the diagonals that the differences j - i of the terms name
-  pub slotMap-offsets : map (λ (d : Diagonal). d .offset) (slotMap m slots period ts) ≡ diagonalsOf slots (map difference ts)
+  pub slotMap-offsets : offsetsOf (slotMap m slots period ts) ≡ diagonalsOf slots (map difference ts)
   unfolding slotMap diagonalsOf
   slotMap-offsets = offsets-of offsets ∙ below-ext (reached slots ts) (named slots (map difference ts)) slots (λ k l. reached-named slots ts k)
 
   -- offsets rise
-  pub slotMap-rising : Rising (map (λ (d : Diagonal). d .offset) (slotMap m slots period ts))
+  pub slotMap-rising : Rising (offsetsOf (slotMap m slots period ts))
   unfolding slotMap
   slotMap-rising = rw (offsets-of offsets) (below-rising (reached slots ts) slots)
 
@@ -187,7 +183,7 @@ module _ (m slots period : ℕ) (ts : List Term) (input : List ℕ) (i q : ℕ) 
   over-diagonals : (t : Term) → reached slots ts (offsetOf slots t) ≡ true → sumBy m (λ k. mulm m (reads k) (weight slots k i t)) (offsets m slots period ts) ≡ part t
   over-diagonals t h =
       sumBy-cong m (λ k. mulm m (reads k) (weight slots k i t)) (λ k. cond (eqb (offsetOf slots t) k) (part t) 0) (λ k. at-own t k (eqb (offsetOf slots t) k) (eqb (t .i) i) refl refl) (offsets m slots period ts)
-      ∙ sum-below-one m (reached slots ts) (offsetOf slots t) (part t) slots (residue-lt (pos (t .j) -ℤ pos (t .i)) slots p) h
+      ∙ sum-below-one m (reached slots ts) (offsetOf slots t) (part t) slots (residue-lt (difference t) slots p) h
       ∙ part-mod t (eqb (t .i) i)
 
   -- where i is the term's, its own diagonal reads j + q·period
@@ -195,7 +191,7 @@ module _ (m slots period : ℕ) (ts : List Term) (input : List ℕ) (i q : ℕ) 
   own-reads t true e =
       ap (λ (x : ℕ). mulm m (t .w) (getD input x 0))
       (ap (λ (x : ℕ). (x + q * period + offsetOf slots t) % slots) (sym (eqb-true (t .i) i e))
-      ∙ sym (residue-add (t .i + q * period) (pos (t .j) -ℤ pos (t .i)) slots p)
+      ∙ sym (residue-add (t .i + q * period) (difference t) slots p)
       ∙ ap (λ (z : ℤ). residueOf z slots) (shift (t .i) (t .j) (q * period))
       ∙ residue-pos (t .j + q * period) slots p)
   own-reads t false e = refl

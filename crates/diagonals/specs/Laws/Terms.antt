@@ -10,7 +10,6 @@ use native.Mathlib.Decide.{ℕ-discrete}
 use native.Mathlib.Omega.{arith}
 use borrow.Author.Tests.{eq-eqb, ne-eqb, eqb-true, eqb-false, le-ltb}
 use lib.Dec.{eqb, ltb}
-use lib.IntN.{pos, _-ℤ_}
 use lib.ListN.{length, getD, set, replicate, length-set, length-replicate}
 use lib.Seq.{getD-set-same, getD-set-other}
 use Rattle.ring.specs.Slots.{addm}
@@ -31,7 +30,7 @@ use Rattle.ring.specs.Divisors.{divides}
 use Rattle.ring.specs.Laws.Refusals.{first-later, first-alone, none-holds, either}
 use Rattle.ring.specs.Laws.Answers.{when-is}
 use Rattle.diagonals.specs.Maps.{Diagonal, pairWords, valueWords}
-use Rattle.diagonals.specs.SlotMaps.{Term, offsetOf, reached, weight, rank, slotMap, zeroMap}
+use Rattle.diagonals.specs.SlotMaps.{Term, difference, offsetOf, reached, weight, rank, slotMap, zeroMap}
 use Rattle.diagonals.specs.Calls.{mapRoom, MapWritten, marked, periodRefusals, zeroMapRefusal, ZeroMapWritten}
 use Rattle.diagonals.specs.Building.{MarksOf, PlacesOf, SumsOf, sumAt}
 use Rattle.diagonals.specs.Laws.SlotMaps.{reached-append, slotMap-count, slotMap-pairs, slotMap-values, zeroMap-count, zeroMap-values}
@@ -64,7 +63,7 @@ no-marks (suc n) (suc k) = no-marks n k
 
 -- the diagonal of a term is below slots
 pub offset-low : (slots : ℕ) (t : Term) → 0 < slots → offsetOf slots t < slots
-offset-low slots t p = residue-lt (pos (t .j) -ℤ pos (t .i)) slots p
+offset-low slots t p = residue-lt (difference t) slots p
 
 -- a new table of marks
 pub unmarked : Unmarked (replicate 65536 false)

@@ -118,7 +118,7 @@ ordered-each P (d ∷ ds) h = by (eqb (d .offset) 0)
     by true = (h .0, each-reverse P ds (h .1))
     by false = each-reverse P (d ∷ ds) h
 
-ordered-stretch : (k : ℕ) (ds : List Diagonal) → Rising (map (λ (d : Diagonal). d .offset) ds) → stretch (ordered ds) k ≡ stretch ds k
+ordered-stretch : (k : ℕ) (ds : List Diagonal) → Rising (offsetsOf ds) → stretch (ordered ds) k ≡ stretch ds k
 ordered-stretch k [] r = refl
 ordered-stretch k (d ∷ ds) r = by (eqb (d .offset) 0)
   where

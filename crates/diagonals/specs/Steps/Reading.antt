@@ -2,9 +2,11 @@
 -- Assumes nothing.
 use Prim.Native.Nat.{ℕ, _-_, _≤_, _<_, _∣_}
 use mathlib.Core.Path.{_≡_}
+use mathlib.Core.Bool.{Bool, false}
 use mathlib.Core.List.{List}
 use lib.IntN.{ℤ}
 use lib.ListN.{length, take, drop}
+use Rattle.ring.specs.Refusals.{noPeriod}
 use Rattle.diagonals.specs.Maps.{offsetAt, startAt, view}
 use Rattle.diagonals.specs.Products.{stretch}
 use Rattle.diagonals.specs.Calls.{mapRefusal, gotten}
@@ -12,6 +14,11 @@ use Rattle.diagonals.specs.Calls.{mapRefusal, gotten}
 pub record Divisor (slots p : ℕ) : Type 0 where
   pub some : 1 ≤ p
   pub divides : p ∣ slots
+
+-- `is_no_period`, with what its answer no tells the caller
+pub record NoPeriod (slots len : ℕ) (r : Bool) : Type 0 where
+  pub answer : r ≡ noPeriod slots len
+  pub divisor : r ≡ false → Divisor slots len
 
 -- the first pair whose offset is not below k
 pub record Placed (count : ℕ) (pairs : List ℕ) (k index start : ℕ) : Type 0 where

@@ -2,19 +2,12 @@
 -- Assumes nothing.
 use Prim.Native.Nat.{ℕ, _+_, _-_, _≤_, _<_, _^_}
 use mathlib.Core.Path.{_≡_}
-use mathlib.Core.Bool.{Bool, false}
 use mathlib.Core.List.{List, _++_}
 use lib.ListN.{length, take, drop}
 use Rattle.ring.specs.Vectors.{inFront}
-use Rattle.ring.specs.Refusals.{noPeriod}
 use Rattle.diagonals.specs.declared.setting.Change.{Change}
 use Rattle.diagonals.specs.Maps.{Diagonal, pairRoom, offsetAt, pairOf, startAt}
-use Rattle.diagonals.specs.Steps.Reading.{Divisor, Placed}
-
--- `is_no_period`, with what its answer no tells the caller
-pub record NoPeriod (slots len : ℕ) (r : Bool) : Type 0 where
-  pub answer : r ≡ noPeriod slots len
-  pub divisor : r ≡ false → Divisor slots len
+use Rattle.diagonals.specs.Steps.Reading.{Placed}
 
 -- pairs whose lengths a walk may add up, with rising offsets
 pub record InOrder (count : ℕ) (pairs : List ℕ) : Type 0 where

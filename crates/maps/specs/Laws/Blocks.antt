@@ -18,7 +18,7 @@ use Rattle.diagonals.specs.Calls.{mapRoom, RoomJudged, MapWritten}
 use Rattle.diagonals.specs.Laws.Calls.{room-of, written-refused}
 use Rattle.maps.specs.Readings.{tauRep, rotateRowsRep}
 use Rattle.maps.specs.Sums.{leftMulRep}
-use Rattle.maps.specs.Calls.{tiledRefusal, noMatrices, rowsRepRefusal, leftMulRepRefusal}
+use Rattle.maps.specs.Calls.{noMatrices, rowsRepRefusal, leftMulRepRefusal, TiledWritten, RowsRepWritten, LeftMulRepWritten}
 use Rattle.maps.specs.Steps.Tiles.{TilesJudged}
 use Rattle.maps.specs.Steps.Rows.{rows, rowPairs, rowValue, mask, turnedAt, turnedPlace}
 use Rattle.maps.specs.Laws.Tiling.{side-pos, square-pos, tiles-first, tiles-later}
@@ -38,11 +38,11 @@ module _ {slots l r : ℕ} (j : TilesJudged slots l 1 r) (z : r ≡ 0) (pairs₀
   tau-room : t ≡ firstOf (mapRoom (tauRep (2 ^ l)) pairs₀ values₀)
   tau-room = rw (tau-is (2 ^ l)) (room-rows (2 ^ l) (2 ^ l) (steps (2 ^ l)) mask pairs₀ values₀ h)
 
-  pub tau-no-room : (t ≡ 0 → ⊥) → MapWritten (tiledRefusal slots l (tauRep (2 ^ l)) pairs₀ values₀) (tauRep (2 ^ l)) pairs₀ pairs₀ values₀ values₀ (Refused t)
+  pub tau-no-room : (t ≡ 0 → ⊥) → TiledWritten slots l (tauRep (2 ^ l)) pairs₀ pairs₀ values₀ values₀ (Refused t)
   tau-no-room n = tiled-then j (tauRep (2 ^ l)) pairs₀ values₀ z (written-refused tau-room n)
 
   pub tau-written : {pairs₁ values₁ : List ℕ} → t ≡ 0 → pairs₁ ≡ inFront (rowPairs (steps (2 ^ l)) (2 ^ l) (2 ^ l)) pairs₀ → values₁ ≡ filled (rowValue (2 ^ l) mask) (2 ^ l * 2 ^ l) values₀
-      → MapWritten (tiledRefusal slots l (tauRep (2 ^ l)) pairs₀ values₀) (tauRep (2 ^ l)) pairs₀ pairs₁ values₀ values₁ (Is (2 ^ l))
+      → TiledWritten slots l (tauRep (2 ^ l)) pairs₀ pairs₁ values₀ values₁ (Is (2 ^ l))
   tau-written e p v =
       let q : firstOf (mapRoom (tauRep (2 ^ l)) pairs₀ values₀) ≡ 0 = sym tau-room ∙ e in
       tiled-then j (tauRep (2 ^ l)) pairs₀ values₀ z (rw (tau-is (2 ^ l)) (rows-written (2 ^ l) (2 ^ l) (steps (2 ^ l)) mask (side-pos l) (rw (tau-is (2 ^ l)) at q) p v))
@@ -61,7 +61,7 @@ module _ {slots l r : ℕ} (j : TilesJudged slots l 1 r) (k : ℕ) (pairs₀ val
   rest = (ltb k 1 || not (ltb k (2 ^ l)), 6) ∷ mapRoom (rotateRowsRep slots (2 ^ l) k) pairs₀ values₀
 
   abbrev Rows : List ℕ → List ℕ → Answer → Type 0
-  Rows p v a = MapWritten (rowsRepRefusal slots l k pairs₀ values₀) (rotateRowsRep slots (2 ^ l) k) pairs₀ p values₀ v a
+  Rows p v a = RowsRepWritten slots l k pairs₀ p values₀ v a
 
   pub rows-refused : (r ≡ 0 → ⊥) → Rows pairs₀ values₀ (Refused r)
   rows-refused h = written-refused (tiles-first j rest h) h
@@ -103,7 +103,7 @@ module _ {slots l r : ℕ} (j : TilesJudged slots l 1 r) (b pairs₀ values₀ :
   behind = (noMatrices l 1 b, 7) ∷ mapRoom (leftMulRep (2 ^ l) b) pairs₀ values₀
 
   abbrev Left : List ℕ → List ℕ → Answer → Type 0
-  Left p v a = MapWritten (leftMulRepRefusal slots l b pairs₀ values₀) (leftMulRep (2 ^ l) b) pairs₀ p values₀ v a
+  Left p v a = LeftMulRepWritten slots l b pairs₀ p values₀ v a
 
   pub left-refused : (r ≡ 0 → ⊥) → Left pairs₀ values₀ (Refused r)
   left-refused h = written-refused (tiles-first j behind h) h

@@ -20,7 +20,7 @@ use Rattle.ring.specs.Laws.Vectors.{length-tabulate}
 use Rattle.ring.specs.Laws.Searches.{lt-or-ge}
 use Rattle.ring.specs.Laws.Residues.{residue-turns, residue-apart, gap-pos, gap-more}
 use Rattle.ring.specs.Laws.Indexes.{mem-tabulate, mem-named, same-diagonals, apart-tabulate, apart-count}
-use Rattle.diagonals.specs.Maps.{Diagonal, pairRoom}
+use Rattle.diagonals.specs.Maps.{Diagonal, offsetsOf, pairRoom}
 use Rattle.diagonals.specs.Calls.{roomRefusals, mapRoom}
 use Rattle.diagonals.specs.Laws.Pairs.{length-pairWords}
 use Rattle.diagonals.specs.Laws.Writing.{length-valueWords}
@@ -185,7 +185,7 @@ pub sized-room : {ds : List Diagonal} {n m : ℕ} → Sized ds n m → (pairs va
 sized-room {ds} s pairs values = rw (s .count, s .values)
 
 -- as many as its offsets
-by-offsets : (ds : List Diagonal) {ks : List ℕ} {n : ℕ} → map (λ (x : Diagonal). x .offset) ds ≡ ks → length ks ≡ n → length ds ≡ n
+by-offsets : (ds : List Diagonal) {ks : List ℕ} {n : ℕ} → offsetsOf ds ≡ ks → length ks ≡ n → length ds ≡ n
 by-offsets ds e f = sym (length-map ds (λ (x : Diagonal). x .offset)) ∙ ap length e ∙ f
 
 module _ (m slots d : ℕ) (h : 1 ≤ d) (v : d * d ∣ slots) (p : 0 < slots) where

@@ -34,7 +34,7 @@ use Rattle.maps.specs.Readings.{reads, wholeMap, ruleMap, shiftOf, tauRe
 use Rattle.maps.specs.Sums.{productMap, formula, leftMulRep}
 use Rattle.maps.specs.Values.{slotProduct, firstRow, firstCol}
 use Rattle.maps.specs.Offsets.{ruleCount, productCount}
-use Rattle.maps.specs.Calls.{noTiles, ShrunkWritten, ruleRefusal, RuleWritten, matrixTermsMap, perMatrixRefusal, productRefusal, leftMulRepRefusal, tiledRefusal, rowsRepRefusal, slotProductRefusal}
+use Rattle.maps.specs.Calls.{noTiles, ShrunkWritten, ruleRefusal, RuleWritten, matrixTermsMap, perMatrixRefusal, productRefusal, leftMulRepRefusal, tiledRefusal, rowsRepRefusal, slotProductRefusal, TiledWritten, RowsRepWritten, LeftMulRepWritten, SlotProductWritten, ProductWritten, PerMatrixWritten}
 use Rattle.maps.specs.Steps.Tiles.{Tiles}
 use Rattle.maps.specs.Laws.Tiling.{side-pos, square-pos, not-refused}
 use Rattle.maps.specs.Laws.Readings.{wholeMap-formed, ruleMap-at}
@@ -116,7 +116,7 @@ module _ (slots l : ℕ) (rule : Rule) {p₀ p₁ v₀ v₁ : List ℕ} {r : Ans
 
 -- ---- the maps of terms that every matrix slot shares
 
-module _ (slots l : ℕ) (is js ws : List ℕ) {p₀ p₁ v₀ v₁ : List ℕ} {r : Answer} (m : ShrunkWritten (perMatrixRefusal slots l is js ws p₀ v₀) (matrixTermsMap slots l is js ws) p₀ p₁ v₀ v₁ r) (z : perMatrixRefusal slots l is js ws p₀ v₀ ≡ 0) where
+module _ (slots l : ℕ) (is js ws : List ℕ) {p₀ p₁ v₀ v₁ : List ℕ} {r : Answer} (m : PerMatrixWritten slots l is js ws p₀ p₁ v₀ v₁ r) (z : perMatrixRefusal slots l is js ws p₀ v₀ ≡ 0) where
   terms-formed : FormedMap slots (matrixTermsMap slots l is js ws)
   terms-formed = slotMap-formed modulus slots (2 ^ l * 2 ^ l) (termsOf is js ws) (square-pos l) (period-divides (tiles-of slots l 1 _ z))
 
@@ -137,7 +137,7 @@ module _ (slots l : ℕ) (is js ws : List ℕ) {p₀ p₁ v₀ v₁ : List ℕ} 
 
 -- ---- the products by public matrices
 
-module _ (slots l count : ℕ) (p : Product) (b : List ℕ) {p₀ p₁ v₀ v₁ : List ℕ} {r : Answer} (m : MapWritten (productRefusal slots l count p b p₀ v₀) (productMap modulus slots (2 ^ l) count p b) p₀ p₁ v₀ v₁ r) (z : productRefusal slots l count p b p₀ v₀ ≡ 0) where
+module _ (slots l count : ℕ) (p : Product) (b : List ℕ) {p₀ p₁ v₀ v₁ : List ℕ} {r : Answer} (m : ProductWritten slots l count p b p₀ p₁ v₀ v₁ r) (z : productRefusal slots l count p b p₀ v₀ ≡ 0) where
   sums-tiles : Tiles slots l count
   sums-tiles = tiles-of slots l count _ z
 
@@ -161,23 +161,23 @@ module _ (slots l count : ℕ) (p : Product) (b : List ℕ) {p₀ p₁ v₀ v₁
 -- ---- the maps on replicated inputs, and the projections: the buffers hold them
 
 module _ (slots l : ℕ) {p₀ p₁ v₀ v₁ : List ℕ} {r : Answer} where
-  pub tauRep-holds : MapWritten (tiledRefusal slots l (tauRep (2 ^ l)) p₀ v₀) (tauRep (2 ^ l)) p₀ p₁ v₀ v₁ r → tiledRefusal slots l (tauRep (2 ^ l)) p₀ v₀ ≡ 0 → Holds slots (tauRep (2 ^ l)) (2 ^ l) p₁ v₁
+  pub tauRep-holds : TiledWritten slots l (tauRep (2 ^ l)) p₀ p₁ v₀ v₁ r → tiledRefusal slots l (tauRep (2 ^ l)) p₀ v₀ ≡ 0 → Holds slots (tauRep (2 ^ l)) (2 ^ l) p₁ v₁
   tauRep-holds m z = tiled-holds slots l 1 _ z (λ t. tauRep-formed slots (2 ^ l) (period-divides t) (side-pos l) (t .low)) (tauRep-size (2 ^ l) .count) m z
 
-  pub firstRow-holds : MapWritten (tiledRefusal slots l (firstRow (2 ^ l)) p₀ v₀) (firstRow (2 ^ l)) p₀ p₁ v₀ v₁ r → tiledRefusal slots l (firstRow (2 ^ l)) p₀ v₀ ≡ 0 → Holds slots (firstRow (2 ^ l)) 1 p₁ v₁
+  pub firstRow-holds : TiledWritten slots l (firstRow (2 ^ l)) p₀ p₁ v₀ v₁ r → tiledRefusal slots l (firstRow (2 ^ l)) p₀ v₀ ≡ 0 → Holds slots (firstRow (2 ^ l)) 1 p₁ v₁
   firstRow-holds m z = tiled-holds slots l 1 _ z (λ t. firstRow-formed slots (2 ^ l) (period-divides t) (side-pos l) (t .low)) (firstRow-size (2 ^ l) .count) m z
 
-  pub firstCol-holds : MapWritten (tiledRefusal slots l (firstCol (2 ^ l)) p₀ v₀) (firstCol (2 ^ l)) p₀ p₁ v₀ v₁ r → tiledRefusal slots l (firstCol (2 ^ l)) p₀ v₀ ≡ 0 → Holds slots (firstCol (2 ^ l)) 1 p₁ v₁
+  pub firstCol-holds : TiledWritten slots l (firstCol (2 ^ l)) p₀ p₁ v₀ v₁ r → tiledRefusal slots l (firstCol (2 ^ l)) p₀ v₀ ≡ 0 → Holds slots (firstCol (2 ^ l)) 1 p₁ v₁
   firstCol-holds m z = tiled-holds slots l 1 _ z (λ t. firstCol-formed slots (2 ^ l) (period-divides t) (side-pos l) (t .low)) (firstCol-size (2 ^ l) .count) m z
 
-  pub rotateRowsRep-holds : (k : ℕ) → MapWritten (rowsRepRefusal slots l k p₀ v₀) (rotateRowsRep slots (2 ^ l) k) p₀ p₁ v₀ v₁ r → rowsRepRefusal slots l k p₀ v₀ ≡ 0 → Holds slots (rotateRowsRep slots (2 ^ l) k) 1 p₁ v₁
+  pub rotateRowsRep-holds : (k : ℕ) → RowsRepWritten slots l k p₀ p₁ v₀ v₁ r → rowsRepRefusal slots l k p₀ v₀ ≡ 0 → Holds slots (rotateRowsRep slots (2 ^ l) k) 1 p₁ v₁
   rotateRowsRep-holds k m z = tiled-holds slots l 1 _ z (λ t. rotateRowsRep-formed slots (2 ^ l) (period-divides t) (side-pos l) (t .low) k) (rotateRowsRep-size (2 ^ l) slots k .count) m z
 
-  pub leftMulRep-holds : (b : List ℕ) → MapWritten (leftMulRepRefusal slots l b p₀ v₀) (leftMulRep (2 ^ l) b) p₀ p₁ v₀ v₁ r → leftMulRepRefusal slots l b p₀ v₀ ≡ 0 → Holds slots (leftMulRep (2 ^ l) b) (2 ^ l) p₁ v₁
+  pub leftMulRep-holds : (b : List ℕ) → LeftMulRepWritten slots l b p₀ p₁ v₀ v₁ r → leftMulRepRefusal slots l b p₀ v₀ ≡ 0 → Holds slots (leftMulRep (2 ^ l) b) (2 ^ l) p₁ v₁
   leftMulRep-holds b m z = tiled-holds slots l 1 _ z (λ t. leftMulRep-formed slots (2 ^ l) (period-divides t) (side-pos l) (t .low) b) (leftMulRep-size (2 ^ l) b .count) m z
 
 -- and the products by slot vectors
-pub slotProduct-holds : (slots : ℕ) (values : List ℕ) (rotation : ℤ) {p₀ p₁ v₀ v₁ : List ℕ} {r : Answer} → MapWritten (slotProductRefusal slots values rotation p₀ v₀) (slotProduct values rotation) p₀ p₁ v₀ v₁ r → slotProductRefusal slots values rotation p₀ v₀ ≡ 0 → Holds slots (slotProduct values rotation) 1 p₁ v₁
+pub slotProduct-holds : (slots : ℕ) (values : List ℕ) (rotation : ℤ) {p₀ p₁ v₀ v₁ : List ℕ} {r : Answer} → SlotProductWritten slots values rotation p₀ p₁ v₀ v₁ r → slotProductRefusal slots values rotation p₀ v₀ ≡ 0 → Holds slots (slotProduct values rotation) 1 p₁ v₁
 slotProduct-holds slots values rotation m z =
     let o = pick-none (outside slots) 1 _ (suc-ne-zero 0) z in
     let low : 1 ≤ slots = inside slots (o .0) .0 in

@@ -18,9 +18,9 @@ use Rattle.ring.specs.Laws.Vectors.{length-tabulate, getD-tabulate, tabulate-co
 use Rattle.ring.specs.Laws.Searches.{lt-or-ge}
 use Rattle.ring.specs.Laws.Residues.{residue-pos, equal-gaps, gap-pos}
 use Rattle.ring.specs.Laws.Indexes.{mem-tabulate, mem-named, same-diagonals, rising-diagonals, one-diagonal}
-use Rattle.diagonals.specs.Maps.{Diagonal}
-use Rattle.diagonals.specs.SlotMaps.{Term, offsetOf, reached}
-use Rattle.diagonals.specs.Laws.SlotMaps.{difference, reached-named, reached-at, slotMap-offsets}
+use Rattle.diagonals.specs.Maps.{Diagonal, offsetsOf}
+use Rattle.diagonals.specs.SlotMaps.{Term, difference, offsetOf, reached}
+use Rattle.diagonals.specs.Laws.SlotMaps.{reached-named, reached-at, slotMap-offsets}
 use Rattle.diagonals.specs.Laws.Terms.{reached-row}
 use Rattle.diagonals.specs.Laws.Shrinking.{shrunk-offsets}
 use Rattle.maps.specs.declared.rules.Rule.{Rule}
@@ -234,7 +234,7 @@ module _ (m slots d : ℕ) (rule : Rule) (h : 1 ≤ d) (l : shiftOf rule ≤ d) 
       (rw (one, w .is, eq-eqb (residueOf z slots) (residueOf z slots) refl))
 
   -- the offsets of the map before it shrinks
-  pub wholeMap-offsets : map (λ (x : Diagonal). x .offset) (wholeMap m slots d rule) ≡ diagonalsOf slots (ruleIndexes rule d)
+  pub wholeMap-offsets : offsetsOf (wholeMap m slots d rule) ≡ diagonalsOf slots (ruleIndexes rule d)
   unfolding wholeMap
   wholeMap-offsets =
       slotMap-offsets m slots (d * d) terms
@@ -243,7 +243,7 @@ module _ (m slots d : ℕ) (rule : Rule) (h : 1 ≤ d) (l : shiftOf rule ≤ d) 
       (each-then (λ z w. sym (reached-named slots terms (residueOf z slots)) ∙ reads-reached z w) (ruleIndexes rule d) (listed-reads d h rule l))
 
   -- and afterwards
-  pub ruleMap-offsets : map (λ (x : Diagonal). x .offset) (ruleMap m slots d rule) ≡ diagonalsOf slots (ruleIndexes rule d)
+  pub ruleMap-offsets : offsetsOf (ruleMap m slots d rule) ≡ diagonalsOf slots (ruleIndexes rule d)
   unfolding ruleMap
   ruleMap-offsets = shrunk-offsets (wholeMap m slots d rule) ∙ wholeMap-offsets
 
@@ -333,7 +333,7 @@ module _ (m slots d count : ℕ) (h : 1 ≤ d) (n : 1 ≤ count) where
         (reached-at slots (outputTerms p d count b t) (w .l) (sumTerm p d count b t 0) (rw length-tabulate (w .l-low))))
 
     -- the offsets of a product, whatever the public matrices are
-    pub productMap-offsets : map (λ (x : Diagonal). x .offset) (productMap m slots d count p b) ≡ diagonalsOf slots (productIndexes p d)
+    pub productMap-offsets : offsetsOf (productMap m slots d count p b) ≡ diagonalsOf slots (productIndexes p d)
     unfolding productMap
     productMap-offsets =
         slotMap-offsets m slots (periodOf p d count) sums
@@ -356,17 +356,17 @@ module _ (slots d : ℕ) (k : 0 < slots) (v : d * d ≤ slots) where
       rising-diagonals slots k (tabulate d (λ j. pos (j * d))) (rw e (rising-tabulate d (λ j. j * d) (λ i j l m. mul-lt-mul-of-pos-right l (omega arith)))) ∙ e
 
   -- `tau_rep` and `left_mul_rep`
-  pub tauRep-offsets : map (λ (x : Diagonal). x .offset) (tauRep d) ≡ diagonalsOf slots (forward d d)
+  pub tauRep-offsets : offsetsOf (tauRep d) ≡ diagonalsOf slots (forward d d)
   unfolding tauRep
   tauRep-offsets = map-tabulate (λ (x : Diagonal). x .offset) d (λ c. record { offset = c * d; values = tabulate d (λ x. cond (eqb x c) 1 0) }) ∙ sym forward-diagonals
 
-  pub leftMulRep-offsets : (b : List ℕ) → map (λ (x : Diagonal). x .offset) (leftMulRep d b) ≡ diagonalsOf slots (forward d d)
+  pub leftMulRep-offsets : (b : List ℕ) → offsetsOf (leftMulRep d b) ≡ diagonalsOf slots (forward d d)
   unfolding leftMulRep
   leftMulRep-offsets b = map-tabulate (λ (x : Diagonal). x .offset) d _ ∙ sym forward-diagonals
 
 module _ (slots : ℕ) (k : 0 < slots) where
   -- `rotate_rows_rep`: k·d
-  pub rotateRowsRep-offsets : (d x : ℕ) → map (λ (y : Diagonal). y .offset) (rotateRowsRep slots d x) ≡ diagonalsOf slots (pos (x * d) ∷ [])
+  pub rotateRowsRep-offsets : (d x : ℕ) → offsetsOf (rotateRowsRep slots d x) ≡ diagonalsOf slots (pos (x * d) ∷ [])
   unfolding rotateRowsRep
   rotateRowsRep-offsets d x = sym (one-diagonal slots k (pos (x * d)) ∙ ap (λ (y : ℕ). y ∷ []) (residue-pos (x * d) slots k))
 
@@ -374,14 +374,14 @@ module _ (slots : ℕ) (k : 0 < slots) where
   zero-diagonal : 0 ∷ [] ≡ diagonalsOf slots (pos 0 ∷ [])
   zero-diagonal = sym (one-diagonal slots k (pos 0) ∙ ap (λ (y : ℕ). y ∷ []) (residue-pos 0 slots k ∙ zero-mod slots))
 
-  pub firstRow-offsets : (d : ℕ) → map (λ (x : Diagonal). x .offset) (firstRow d) ≡ diagonalsOf slots (pos 0 ∷ [])
+  pub firstRow-offsets : (d : ℕ) → offsetsOf (firstRow d) ≡ diagonalsOf slots (pos 0 ∷ [])
   unfolding firstRow
   firstRow-offsets d = zero-diagonal
 
-  pub firstCol-offsets : (d : ℕ) → map (λ (x : Diagonal). x .offset) (firstCol d) ≡ diagonalsOf slots (pos 0 ∷ [])
+  pub firstCol-offsets : (d : ℕ) → offsetsOf (firstCol d) ≡ diagonalsOf slots (pos 0 ∷ [])
   unfolding firstCol
   firstCol-offsets d = zero-diagonal
 
-  pub slotProduct-offsets : (values : List ℕ) (rotation : ℤ) → map (λ (x : Diagonal). x .offset) (slotProduct values rotation) ≡ diagonalsOf slots (pos 0 ∷ [])
+  pub slotProduct-offsets : (values : List ℕ) (rotation : ℤ) → offsetsOf (slotProduct values rotation) ≡ diagonalsOf slots (pos 0 ∷ [])
   unfolding slotProduct
   slotProduct-offsets values rotation = zero-diagonal

@@ -20,7 +20,7 @@ use Rattle.diagonals.specs.Laws.Pairs.{length-pairWords, pair-alike, length-put
 use Rattle.diagonals.specs.Laws.Words.{pairWords-more}
 use Rattle.diagonals.specs.Laws.Writing.{length-valueWords}
 use Rattle.diagonals.specs.Laws.SlotMaps.{zeroMap-count, zeroMap-more}
-use Rattle.maps.specs.Calls.{tiledRefusal}
+use Rattle.maps.specs.Calls.{TiledWritten}
 use Rattle.maps.specs.Steps.Tiles.{TilesJudged}
 use Rattle.maps.specs.Steps.Rows.{rows, rowPairs, rowValue}
 use Rattle.maps.specs.Laws.Tiling.{tiles-first, tiles-later}
@@ -127,8 +127,8 @@ rows-written n p o v {values₀} h e a b =
 -- ---- maps of one matrix that have no further arguments
 
 module _ {slots l r : ℕ} (j : TilesJudged slots l 1 r) (ds : List Diagonal) (pairs values : List ℕ) where
-  pub tiled-refused : (r ≡ 0 → ⊥) → MapWritten (tiledRefusal slots l ds pairs values) ds pairs pairs values values (Refused r)
+  pub tiled-refused : (r ≡ 0 → ⊥) → TiledWritten slots l ds pairs pairs values values (Refused r)
   tiled-refused h = written-refused (tiles-first j (mapRoom ds pairs values) h) h
 
-  pub tiled-then : {pairs₁ values₁ : List ℕ} {a : Answer} → r ≡ 0 → MapWritten (firstOf (mapRoom ds pairs values)) ds pairs pairs₁ values values₁ a → MapWritten (tiledRefusal slots l ds pairs values) ds pairs pairs₁ values values₁ a
+  pub tiled-then : {pairs₁ values₁ : List ℕ} {a : Answer} → r ≡ 0 → MapWritten (firstOf (mapRoom ds pairs values)) ds pairs pairs₁ values values₁ a → TiledWritten slots l ds pairs pairs₁ values values₁ a
   tiled-then {pairs₁} {values₁} {a} z m = subst (λ (e : ℕ). MapWritten e ds pairs pairs₁ values values₁ a) (sym (tiles-later j (mapRoom ds pairs values) z)) m

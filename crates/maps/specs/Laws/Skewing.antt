@@ -17,7 +17,7 @@ use Rattle.ring.specs.Laws.Refusals.{onAccept-refused, onAccept-accepted, first
 use Rattle.ring.specs.Laws.Answers.{answered-refused, answered-accepted}
 use Rattle.maps.specs.Entries.{place, entryOf}
 use Rattle.maps.specs.Values.{skewed, skewedValues, onDiagonal, slotProduct, firstRow, firstCol}
-use Rattle.maps.specs.Calls.{valuesRefusal, ValuesWritten, tiledRefusal, slotProductRefusal}
+use Rattle.maps.specs.Calls.{valuesRefusal, ValuesWritten, slotProductRefusal, TiledWritten, SlotProductWritten}
 use Rattle.maps.specs.Steps.Rows.{ones}
 use Rattle.maps.specs.Steps.Values.{skewedPlace, skewedAt, valuesRefusals, ValuesJudged, OnesWritten}
 use lib.IntN.{ℤ}
@@ -25,7 +25,7 @@ use Rattle.ring.specs.Rotations.{rotated}
 use Rattle.ring.specs.Laws.Rotations.{length-rotated}
 use Rattle.ring.specs.declared.Answer.{Answer}
 use Rattle.diagonals.specs.Maps.{Diagonal, putPair}
-use Rattle.diagonals.specs.Calls.{mapRoom, RoomJudged, MapWritten}
+use Rattle.diagonals.specs.Calls.{mapRoom, RoomJudged}
 use Rattle.diagonals.specs.Laws.Calls.{room-of, written-refused}
 use Rattle.maps.specs.Steps.Tiles.{TilesJudged}
 use Rattle.maps.specs.Laws.Rows.{values-one, one-written, tiled-then}
@@ -144,10 +144,10 @@ module _ (n len : ℕ) (pairs₀ values₀ : List ℕ) {t : ℕ} (h : RoomJudged
       (v ∙ filled-front (ones n) len values₀)
 
 module _ {slots l r d : ℕ} (j : TilesJudged slots l 1 r) (z : r ≡ 0) (e : d ≡ 2 ^ l) {pairs₀ pairs₁ values₀ values₁ : List ℕ} {a : Answer} where
-  pub first-row-then : OnesWritten d (d * d) pairs₀ pairs₁ values₀ values₁ a → MapWritten (tiledRefusal slots l (firstRow (2 ^ l)) pairs₀ values₀) (firstRow (2 ^ l)) pairs₀ pairs₁ values₀ values₁ a
+  pub first-row-then : OnesWritten d (d * d) pairs₀ pairs₁ values₀ values₁ a → TiledWritten slots l (firstRow (2 ^ l)) pairs₀ pairs₁ values₀ values₁ a
   first-row-then m = tiled-then j (firstRow (2 ^ l)) pairs₀ values₀ z (rw (first-row-is (2 ^ l), ← e) m)
 
-  pub first-col-then : OnesWritten 1 d pairs₀ pairs₁ values₀ values₁ a → MapWritten (tiledRefusal slots l (firstCol (2 ^ l)) pairs₀ values₀) (firstCol (2 ^ l)) pairs₀ pairs₁ values₀ values₁ a
+  pub first-col-then : OnesWritten 1 d pairs₀ pairs₁ values₀ values₁ a → TiledWritten slots l (firstCol (2 ^ l)) pairs₀ pairs₁ values₀ values₁ a
   first-col-then m = tiled-then j (firstCol (2 ^ l)) pairs₀ values₀ z (rw (first-col-is (2 ^ l), ← e) m)
 
 -- ---- products by slot vectors
@@ -160,10 +160,10 @@ module _ (slots : ℕ) (v : List ℕ) (k : ℤ) (pairs₀ values₀ : List ℕ) 
   unfolding slotProduct
   product-refusal = rw (a, b) (sym (room-of (turned ∷ []) pairs₀ values₀ refl (sym (ap length (values-one turned) ∙ length-rotated v k (length v))) h))
 
-  pub product-no-room : (t ≡ 0 → ⊥) → MapWritten (slotProductRefusal slots v k pairs₀ values₀) (slotProduct v k) pairs₀ pairs₀ values₀ values₀ (Refused t)
+  pub product-no-room : (t ≡ 0 → ⊥) → SlotProductWritten slots v k pairs₀ pairs₀ values₀ values₀ (Refused t)
   product-no-room e = written-refused (sym product-refusal) e
 
-  pub product-written : {pairs₁ values₁ out : List ℕ} → t ≡ 0 → pairs₁ ≡ putPair pairs₀ 0 0 (length v) → out ≡ rotated v k (length v) → values₁ ≡ out ++ drop (length v) values₀ → MapWritten (slotProductRefusal slots v k pairs₀ values₀) (slotProduct v k) pairs₀ pairs₁ values₀ values₁ (Is 1)
+  pub product-written : {pairs₁ values₁ out : List ℕ} → t ≡ 0 → pairs₁ ≡ putPair pairs₀ 0 0 (length v) → out ≡ rotated v k (length v) → values₁ ≡ out ++ drop (length v) values₀ → SlotProductWritten slots v k pairs₀ pairs₁ values₀ values₁ (Is 1)
   unfolding slotProduct inFront
   product-written e p o w =
       one-written turned (product-refusal ∙ e)

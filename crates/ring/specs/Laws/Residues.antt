@@ -4,25 +4,49 @@
 use mathlib.Core.Path.{_≡_, refl, sym, ap, _∙_}
 use mathlib.Core.Bool.{Bool, true, false, cond}
 use Prim.Native.Nat.{ℕ, zero, suc, _+_, _-_, _*_, _/_, _%_, _<_, _≤_, _∣_}
-use native.Mathlib.Nat.{add-comm, zero-add, zero-mul, mul-comm, zero-mod, add-zero, sub-zero, mod-self, add-mod-right, mod-eq-zero-of-dvd, pos-of-dvd-of-pos, mod-lt, zero-lt-suc, not-suc-le-zero, add-mod-mod, mod-add-mod, mod-add-div, mod-eq-of-lt, mod-mod, add-mul-mod-self-left, mul-mod-right, dvd-mul-right}
+use native.Mathlib.Nat.{add-comm, zero-add, zero-mul, mul-comm, zero-mod, add-zero, mod-self, mod-eq-zero-of-dvd, pos-of-dvd-of-pos, mod-lt, zero-lt-suc, not-suc-le-zero, add-mod-mod, mod-add-mod, mod-add-div, mod-eq-of-lt, mod-mod, add-mul-mod-self-left, mul-mod-right, dvd-mul-right}
 use native.Mathlib.Omega.{arith}
 use lib.Dec.{ltb}
-use lib.IntN.{ℤ, pos, negsuc, negℤ, _+ℤ_, _-ℤ_, _*ℤ_, +ℤ-assoc, +ℤ-comm, +ℤ-idr, +ℤ-invr, +ℤ-negℤ-cancel, pos-+ℤ-pos}
+use lib.IntN.{ℤ, pos, negsuc, negℤ, _+ℤ_, _-ℤ_, _*ℤ_, +ℤ-assoc, +ℤ-comm, +ℤ-idr, +ℤ-invr, +ℤ-negℤ-cancel}
 use borrow.Author.Tests.{ltb-true, ltb-false, lt-ltb, le-ltb}
 use Rattle.ring.specs.Residues.{residueOf}
 use Rattle.ring.specs.Laws.Slots.{mod-mul-mod, mul-mod-mod}
 
+-- ---- differences
+
+-- equal differences, from equal sums
+pub equal-gaps : (a b c d : ℕ) → a + d ≡ c + b → pos a -ℤ pos b ≡ pos c -ℤ pos d
+equal-gaps a b c d e =
+    ap (λ (z : ℤ). z -ℤ pos b) (sym (+ℤ-negℤ-cancel (pos a) (pos d)))
+    ∙ ap (λ (n : ℕ). pos n -ℤ pos d -ℤ pos b) e
+    ∙ swap (pos (c + b)) (negℤ (pos d)) (negℤ (pos b))
+    ∙ ap (λ (z : ℤ). z -ℤ pos d) (+ℤ-negℤ-cancel (pos c) (pos b))
+  where
+    swap : (x y z : ℤ) → x +ℤ y +ℤ z ≡ x +ℤ z +ℤ y
+    swap x y z = +ℤ-assoc x y z ∙ ap (λ (w : ℤ). x +ℤ w) (+ℤ-comm y z) ∙ sym (+ℤ-assoc x z y)
+
+-- a difference that is not negative
+pub gap-pos : (a b n : ℕ) → a ≡ n + b → pos a -ℤ pos b ≡ pos n
+gap-pos a b n e = equal-gaps a b n 0 (omega arith) ∙ +ℤ-idr (pos n)
+
+-- and one that is n more
+pub gap-more : (a b c d n : ℕ) → a + d ≡ n + c + b → pos a -ℤ pos b ≡ pos n +ℤ (pos c -ℤ pos d)
+gap-more a b c d n e = equal-gaps a b (n + c) d e ∙ +ℤ-assoc (pos n) (pos c) (negℤ (pos d))
+
+-- ---- residues
+
+-- it is below m
 pub residue-lt : (z : ℤ) (m : ℕ) → 0 < m → residueOf z m < m
 residue-lt z zero h = absurd (not-suc-le-zero h)
 residue-lt (pos n) (suc m) h = mod-lt n h
 residue-lt (negsuc n) (suc m) h = omega arith
 
--- of a number that is not negative it is the remainder
 -- modulo 0 too
 pub residue-le : (z : ℤ) (m : ℕ) → residueOf z m ≤ m
 residue-le z zero = omega arith
 residue-le z (suc m) = omega (arith, residue-lt z (suc m) (zero-lt-suc m))
 
+-- of a number that is not negative it is the remainder
 pub residue-pos : (n m : ℕ) → 0 < m → residueOf (pos n) m ≡ n % m
 residue-pos n zero h = absurd (not-suc-le-zero h)
 residue-pos n (suc m) h = refl
@@ -59,29 +83,16 @@ residue-add j z zero h = absurd (not-suc-le-zero h)
 residue-add j (pos n) (suc m) h = sym (add-mod-mod j n (suc m))
 residue-add j (negsuc n) (suc m) h = add-negsuc j n m (ltb j (suc n)) refl
 
--- the residue of a difference
-pub residue-sub : (j i m : ℕ) → i < m → residueOf (pos j -ℤ pos i) m ≡ (j + (m - i)) % m
-residue-sub j i zero l = absurd (not-suc-le-zero l)
-residue-sub j zero (suc m) l = simp (add-zero, sub-zero) (sym (add-mod-right j (suc m)))
-residue-sub j (suc i) (suc m) l =
-    residue-add j (negsuc i) (suc m) (zero-lt-suc m)
-    ∙ ap (λ (x : ℕ). (j + x) % suc m) (let e : i % suc m ≡ i = mod-eq-of-lt (omega arith) in omega arith)
-
 -- a difference forwards is a number
 pub residue-forth : (j i m : ℕ) → i ≤ j → residueOf (pos j -ℤ pos i) m ≡ residueOf (pos (j - i)) m
-residue-forth j i m h =
-    let e : j - i + i ≡ j = omega arith in
-    ap (λ (z : ℤ). residueOf z m) (ap (λ (x : ℕ). pos x -ℤ pos i) (sym e) ∙ ap (λ (z : ℤ). z -ℤ pos i) (sym (pos-+ℤ-pos (j - i) i)) ∙ +ℤ-negℤ-cancel (pos (j - i)) (pos i))
+residue-forth j i m h = ap (λ (z : ℤ). residueOf z m) (gap-pos j i (j - i) (omega arith))
 
 -- and backwards what the number lacks to a multiple of m
 pub residue-back : (j i m : ℕ) → j ≤ i → 0 < m → (residueOf (pos (i - j)) m + residueOf (pos j -ℤ pos i) m) % m ≡ 0
 residue-back j i m h p =
-    let e : i - j + j ≡ i = omega arith in
-    let z : ℤ = pos j -ℤ pos i in
-    let none : pos (i - j) +ℤ z ≡ pos 0 =
-    sym (+ℤ-assoc (pos (i - j)) (pos j) (negℤ (pos i))) ∙ ap (λ (y : ℤ). y -ℤ pos i) (pos-+ℤ-pos (i - j) j ∙ ap pos e) ∙ ap (λ (y : ℤ). y -ℤ pos i) (sym (pos-+ℤ-pos 0 i ∙ ap pos (zero-add i))) ∙ +ℤ-negℤ-cancel (pos 0) (pos i) in
+    let none : pos (i - j) +ℤ (pos j -ℤ pos i) ≡ pos 0 = sym (gap-more 0 0 j i (i - j) (omega arith)) ∙ gap-pos 0 0 0 refl in
     rw (residue-pos (i - j) m p, mod-add-mod)
-    (sym (residue-add (i - j) z m p) ∙ ap (λ (y : ℤ). residueOf y m) none ∙ residue-pos 0 m p ∙ zero-mod m)
+    (sym (residue-add (i - j) (pos j -ℤ pos i) m p) ∙ ap (λ (y : ℤ). residueOf y m) none ∙ residue-pos 0 m p ∙ zero-mod m)
 
 -- r + n + 1 less n + 1
 back : (r n : ℕ) → pos (r + suc n) +ℤ negsuc n ≡ pos r
@@ -194,24 +205,3 @@ module _ (z : ℤ) (n m : ℕ) (h : 0 < m) where
       let r : ℕ = residueOf z m in
       let q : m * ((n + r) / m) ≡ n = omega (arith, mod-add-div (n + r) m, sym (residue-add n z m h) ∙ e) in
       rw q at (dvd-mul-right m ((n + r) / m))
-
--- ---- differences
-
--- equal differences, from equal sums
-pub equal-gaps : (a b c d : ℕ) → a + d ≡ c + b → pos a -ℤ pos b ≡ pos c -ℤ pos d
-equal-gaps a b c d e =
-    ap (λ (z : ℤ). z -ℤ pos b) (sym (+ℤ-negℤ-cancel (pos a) (pos d)))
-    ∙ ap (λ (n : ℕ). pos n -ℤ pos d -ℤ pos b) e
-    ∙ swap (pos (c + b)) (negℤ (pos d)) (negℤ (pos b))
-    ∙ ap (λ (z : ℤ). z -ℤ pos d) (+ℤ-negℤ-cancel (pos c) (pos b))
-  where
-    swap : (x y z : ℤ) → x +ℤ y +ℤ z ≡ x +ℤ z +ℤ y
-    swap x y z = +ℤ-assoc x y z ∙ ap (λ (w : ℤ). x +ℤ w) (+ℤ-comm y z) ∙ sym (+ℤ-assoc x z y)
-
--- a difference that is not negative
-pub gap-pos : (a b n : ℕ) → a ≡ n + b → pos a -ℤ pos b ≡ pos n
-gap-pos a b n e = equal-gaps a b n 0 (omega arith) ∙ +ℤ-idr (pos n)
-
--- and one that is n more
-pub gap-more : (a b c d n : ℕ) → a + d ≡ n + c + b → pos a -ℤ pos b ≡ pos n +ℤ (pos c -ℤ pos d)
-gap-more a b c d n e = equal-gaps a b (n + c) d e ∙ +ℤ-assoc (pos n) (pos c) (negℤ (pos d))

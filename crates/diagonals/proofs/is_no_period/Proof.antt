@@ -1,11 +1,11 @@
--- `diagonals::setting::is_no_period` meets its contract. Assumes nothing.
+-- `diagonals::is_no_period` meets its contract. Assumes nothing.
 use native.Mathlib.Omega.{arith}
 use borrow.Author.Needs.{needs}
 use mathlib.Core.Bool.{true≢false}
 use borrow.Author.Tests.{eq-eqb, ne-eqb, not-false}
 use Rattle.ring.specs.Laws.Divisors.{divides-dvd}
-use Rattle.diagonals.proofs.setting.is_no_period.Statement.{statement}
-use Rattle.diagonals.proofs.setting.is_no_period.Tie as tie
+use Rattle.diagonals.proofs.is_no_period.Statement.{statement}
+use Rattle.diagonals.proofs.is_no_period.Tie as tie
 
 returns : tie.Need-returns
 returns c = record { answer = rw (eq-eqb _ _ (c .if1 .taken)); divisor = λ h. absurd (true≢false h) }
