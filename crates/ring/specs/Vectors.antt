@@ -14,6 +14,10 @@ tabulate (suc n) f = f 0 ∷ tabulate n (λ k. f (suc k))
 unfoldable pub inFront : {A : Type 0} → List A → List A → List A
 inFront new old = new ++ drop (length new) old
 
+-- words put from place `at` on, over what stood there
+unfoldable pub putAt : {A : Type 0} → ℕ → List A → List A → List A
+putAt at new old = take at old ++ inFront new (drop at old)
+
 -- a buffer after the first j stores of a loop that writes f i at each i
 unfoldable pub filled : {A : Type 0} → (ℕ → A) → ℕ → List A → List A
 filled f j d = tabulate j f ++ drop j d
