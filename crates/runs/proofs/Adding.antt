@@ -11,7 +11,7 @@ use Rattle.ring.specs.Laws.Vectors.{length-tabulate, getD-tabulate, tabulate-co
 use Rattle.diagonals.specs.Maps.{lengthAt, offsetAt, startAt, diagonalAt, view, WellFormed}
 use Rattle.diagonals.specs.Products.{term, product}
 use Rattle.diagonals.specs.Laws.Maps.{start-more, values-end, stored-some}
-use Rattle.runs.specs.Steps.{diagonalAdded, Repeated}
+use Rattle.runs.specs.Steps.Plain.{diagonalAdded, Repeated}
 use Rattle.diagonals.specs.Laws.Products.{product-none, product-more}
 
 -- the first i diagonals are added, and the values of the next start at `start`

@@ -9,7 +9,7 @@ use lib.ListN.{length, getD, take, drop, length-take, length-drop}
 use lib.Seq.{length-take-le, getD-take, getD-drop}
 use Rattle.ring.specs.Vectors.{tabulate, Filling}
 use Rattle.ring.specs.Laws.Vectors.{tabulate-cong, filling-none, filling-block, filling-rest}
-use Rattle.runs.specs.Steps.{runAdded, Run, diagonalAdded, Repeated}
+use Rattle.runs.specs.Steps.Plain.{runAdded, Run, diagonalAdded, Repeated}
 use Rattle.runs.proofs.Parts.{same-word}
 
 -- the first s slots are done, and a block starts at s

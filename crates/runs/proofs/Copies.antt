@@ -15,7 +15,7 @@ use Rattle.ring.specs.Laws.Divisors.{divides-yes}
 use Rattle.ring.specs.Laws.Refusals.{not-outside, onAccept-accepted}
 use Rattle.diagonals.specs.Calls.{Rotated}
 use Rattle.diagonals.specs.Products.{cell}
-use Rattle.runs.specs.Steps.{diagonalAdded, Repeated}
+use Rattle.runs.specs.Steps.Plain.{diagonalAdded, Repeated}
 use Rattle.runs.proofs.Parts.{same-word}
 
 -- copies of a period read at a slot

@@ -3,3 +3,6 @@ pub mod Parts
 pub mod Blocks
 pub mod Copies
 pub mod Adding
+pub mod Putting
+pub mod Reversing
+pub mod TwoRuns

@@ -13,7 +13,7 @@ use Rattle.ring.specs.Vectors.{tabulate, filled, Filling}
 use Rattle.ring.specs.Calls.{productAdded, MultiplyAdd}
 use Rattle.ring.specs.Laws.Vectors.{tabulate-cong, length-filled, filling-block, filling-rest, filling-done}
 use Rattle.ring.specs.Laws.Refusals.{onAccept-accepted}
-use Rattle.runs.specs.Steps.{runAdded, Run}
+use Rattle.runs.specs.Steps.Plain.{runAdded, Run}
 
 -- three of one length are accepted
 pub accepted : {a b old new : List ℕ} {r : ℕ} (n : ℕ) → MultiplyAdd a b old new r → length a ≡ n → length b ≡ n → length old ≡ n → new ≡ tabulate n (productAdded a b old)

@@ -1,6 +1,7 @@
 // The plain run (`evaluate` of poulpy's diagonals.rs): a map times an input, slot by slot. Numbers of
 // refusals are those of document 01.
 pub mod keyed;
+mod turning;
 
 ghost use mathlib.Core.Path.{_≡_};
 ghost use Prim.Native.Nat.{_≤_};
@@ -10,7 +11,7 @@ ghost use Rattle.ring.specs.Vectors.{tabulate};
 ghost use Rattle.diagonals.specs.Maps.{view, WellFormed};
 ghost use Rattle.diagonals.specs.Products.{product};
 ghost use Rattle.runs.specs.Calls.{Evaluated};
-ghost use Rattle.runs.specs.Steps.{runAdded, diagonalAdded, Run, Repeated};
+ghost use Rattle.runs.specs.Steps.Plain.{runAdded, diagonalAdded, Run, Repeated};
 
 fn clear(out: &mut [u64])
     ensures { λ _. ⌜ now (out .exit) ≡ tabulate (length (now (out .entry))) (λ i. 0) ⌝ }
