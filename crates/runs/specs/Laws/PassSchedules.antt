@@ -1,12 +1,11 @@
 -- Laws of the schedule with powers of two: the passes make the babies that are not 0 in rising order, each from what its top
 -- bit leaves; and how many switches a schedule has.
 -- Assumes nothing.
-use Prim.Native.Nat.{ℕ, zero, suc, _+_, _*_, _-_, _/_, _^_, _≤_, _<_}
+use Prim.Native.Nat.{ℕ, zero, suc, _*_, _-_, _/_, _^_, _≤_, _<_}
 use mathlib.Core.Path.{_≡_, refl, sym, ap, _∙_}
 use mathlib.Core.Bool.{Bool, true, false}
-use mathlib.Core.Logic.{⊎-elim}
 use mathlib.Core.List.{List, [], _∷_, _++_, map, map-id, map-map, map-append, append-nil}
-use native.Mathlib.Nat.{suc-ne-zero, zero-mul, mul-div-cancel, mul-le-mul-right}
+use native.Mathlib.Nat.{suc-ne-zero, zero-mul, mul-comm, mul-sub, sub-self, mul-div-cancel, mul-lt-mul-of-pos-right}
 use native.Mathlib.Omega.{arith}
 use borrow.Author.Tests.{ne-eqb}
 use lib.Dec.{eqb}
@@ -14,21 +13,21 @@ use lib.ListN.{length, getD, length-map, length-append, List·getD-map}
 use Rattle.ring.specs.Lists.{join, some, Each, Rising}
 use Rattle.ring.specs.Searches.{greatest, only, below}
 use Rattle.ring.specs.Vectors.{tabulate}
-use Rattle.ring.specs.Laws.Lists.{each-at, each-then, each-both, join-append, join-cong}
+use Rattle.ring.specs.Laws.Lists.{each-both, rising-map, join-append, join-cong}
 use Rattle.ring.specs.Laws.Members.{among-each, groups}
 use Rattle.ring.specs.Laws.Vectors.{length-tabulate, tabulate-snoc, tabulate-cong}
 use Rattle.ring.specs.Laws.Refusals.{either}
 use Rattle.linear_transformation.specs.declared.LinearTransformationStrategy.{LinearTransformationStrategy}
 use Rattle.linear_transformation.specs.declared.LinearTransformationStrategy.the-variants.{Bsgs, BsgsPowersOfTwo, Direct}
 use Rattle.linear_transformation.specs.Plans.{giants}
-use Rattle.linear_transformation.specs.Closures.{topBit, closure, hasTop, targets, Pass, move, pass, passOf, passes, nonzeros}
+use Rattle.linear_transformation.specs.Closures.{topBit, closure, targets, move, pass, passOf, passes, nonzeros}
 use Rattle.linear_transformation.specs.Trees.{Level, treeSwitches}
 use Rattle.linear_transformation.specs.Schedules.{babyStep, babyMultiples, planBabies, planTree, giantSwitches, planSwitches}
-use Rattle.linear_transformation.specs.Laws.Closures.{top-low, top-high, top-within, closure-low, closure-rising}
+use Rattle.linear_transformation.specs.Laws.Closures.{top-high, top-within, closure-low, closure-rising}
 use Rattle.linear_transformation.specs.Laws.Passes.{target-is}
 use Rattle.linear_transformation.specs.Laws.Turns.{nonzeros-times}
-use Rattle.runs.specs.Switches.{placeOf, Source, sourceOf, Switch, baby, moved, passBabies, planPasses, babySchedule, ownBabies, ownGiants, joined, levelSwitches, giantSchedule, schedule}
-use Rattle.runs.specs.Laws.Schedules.{place-own, map-places, nonzeros-rise, step-positive, plan-babies-rise}
+use Rattle.runs.specs.Switches.{placeOf, fromInput, sourceOf, Switch, baby, giant, moved, passBabies, planPasses, babySchedule, ownBabies, joined, levelSwitches, giantSchedule, schedule}
+use Rattle.runs.specs.Laws.Schedules.{place-own, map-places, own-schedule, nonzeros-rise, step-positive, plan-babies-rise}
 
 -- ---- lists one after the other
 
@@ -127,3 +126,91 @@ module _ (bs : List ℕ) (step : ℕ) where
       ∙ join-cong (λ i. join (λ p. map (moved bs (p .rotation)) (p .moves)) (passOf step i (targets cs i))) (λ i. map (λ k. made (topBit k) k) (targets cs i)) (λ i. one-pass i (targets cs i) ∙ pass-targets cs i) (tabulate b (λ i. i))
       ∙ map-join (λ k. made (topBit k) k) (targets cs) (tabulate b (λ i. i))
       ∙ ap (map (λ k. made (topBit k) k)) (targets-all b cs r l)
+
+-- the switch that makes the p-th baby v that is not 0, at place p: from what its turn leaves of it, by the turn
+abbrev pub making : List ℕ → (ℕ → ℕ) → ℕ → Switch
+making bs turn p = baby p (sourceOf bs (getD (nonzeros bs) p 0 - turn (getD (nonzeros bs) p 0))) (turn (getD (nonzeros bs) p 0))
+
+module _ (step : ℕ) (s : 1 ≤ step) (cs : List ℕ) (r : Rising cs) where
+  abbrev times : List ℕ
+  times = map (λ k. k * step) cs
+
+  multiples : nonzeros times ≡ map (λ k. k * step) (nonzeros cs)
+  multiples = nonzeros-times step cs s
+
+  multiple : (p : ℕ) → getD (nonzeros times) p 0 ≡ getD (nonzeros cs) p 0 * step
+  multiple p =
+      ap (λ (t : List ℕ). getD t p 0) multiples
+      ∙ ap (getD (map (λ k. k * step) (nonzeros cs)) p) (sym (zero-mul step))
+      ∙ List·getD-map (λ k. k * step) (nonzeros cs) p 0
+
+  made-there : (p : ℕ) → p < length (nonzeros times) → made times step (topBit (getD (nonzeros cs) p 0)) (getD (nonzeros cs) p 0) ≡ making times (topTurn step) p
+  made-there p l =
+      let k = getD (nonzeros cs) p 0 in
+      let here : placeOf (k * step) (nonzeros times) ≡ p = ap (λ (x : ℕ). placeOf x (nonzeros times)) (sym (multiple p)) ∙ place-own (nonzeros times) (nonzeros-rise times (rising-map (λ k. k * step) (λ x y h. mul-lt-mul-of-pos-right h s) cs r)) p l in
+      let left : (k - 2 ^ topBit k) * step ≡ k * step - 2 ^ topBit k * step = rw (mul-comm (k - 2 ^ topBit k) step, mul-sub, mul-comm step k, mul-comm step (2 ^ topBit k)) in
+      rw (multiple p, here, mul-div-cancel k s, left)
+
+  passes-table : (b : ℕ) → Each (λ k. k < 2 ^ b) cs → passBabies times (passes b step cs) ≡ tabulate (length (nonzeros times)) (making times (topTurn step))
+  passes-table b l =
+      let nz = nonzeros cs in
+      let len : length nz ≡ length (nonzeros times) = sym (ap length multiples ∙ length-map nz (λ k. k * step)) in
+      passes-made times step b cs r l
+      ∙ map-places (λ k. made times step (topBit k) k) nz
+      ∙ ap (λ (n : ℕ). tabulate n (λ p. made times step (topBit (getD nz p 0)) (getD nz p 0))) len
+      ∙ tabulate-cong (length (nonzeros times)) (λ p. made times step (topBit (getD nz p 0)) (getD nz p 0)) (making times (topTurn step)) made-there
+
+-- the passes make the babies that are not 0 in rising order, each by its top bit
+pub pass-schedule : (slots width : ℕ) (ks : List ℕ) → let bs = planBabies slots (BsgsPowersOfTwo width) ks in passBabies bs (planPasses slots width ks) ≡ tabulate (length (nonzeros bs)) (making bs (topTurn (babyStep slots width ks)))
+unfolding planBabies planPasses
+pass-schedule slots width ks =
+    let ms = babyMultiples slots width ks in
+    passes-table (babyStep slots width ks) (step-positive slots width ks) (closure 16 ms) (closure-rising 16 ms) 16 (closure-low 16 ms)
+
+-- the turn of a baby: its own rotation, or with powers of two its top bit
+abbrev pub turnOf : ℕ → LinearTransformationStrategy → List ℕ → ℕ → ℕ
+turnOf slots (Bsgs width) ks v = v
+turnOf slots (BsgsPowersOfTwo width) ks v = topTurn (babyStep slots width ks) v
+turnOf slots Direct ks v = v
+
+own-making : (bs : List ℕ) → Rising bs → ownBabies bs ≡ tabulate (length (nonzeros bs)) (making bs (λ v. v))
+own-making bs r =
+    own-schedule bs r
+    ∙ tabulate-cong (length (nonzeros bs)) (λ p. baby p fromInput (getD (nonzeros bs) p 0)) (making bs (λ v. v)) (λ p l. rw (sub-self (getD (nonzeros bs) p 0)))
+
+-- the baby switches of every strategy
+pub baby-schedule : (slots : ℕ) (strategy : LinearTransformationStrategy) (ks : List ℕ) → let bs = planBabies slots strategy ks in babySchedule slots strategy ks ≡ tabulate (length (nonzeros bs)) (making bs (turnOf slots strategy ks))
+unfolding babySchedule
+baby-schedule slots (Bsgs width) ks = own-making (planBabies slots (Bsgs width) ks) (plan-babies-rise slots (Bsgs width) ks)
+baby-schedule slots (BsgsPowersOfTwo width) ks = pass-schedule slots width ks
+baby-schedule slots Direct ks = own-making (planBabies slots Direct ks) (plan-babies-rise slots Direct ks)
+
+-- ---- how many switches
+
+pub baby-count : (slots : ℕ) (strategy : LinearTransformationStrategy) (ks : List ℕ) → length (babySchedule slots strategy ks) ≡ length (nonzeros (planBabies slots strategy ks))
+baby-count slots strategy ks =
+    let bs = planBabies slots strategy ks in
+    ap length (baby-schedule slots strategy ks) ∙ length-tabulate (length (nonzeros bs)) (making bs (turnOf slots strategy ks))
+
+level-count : (leaves : List ℕ) (i : ℕ) (ls : List Level) → length (levelSwitches leaves i ls) ≡ length (join (λ l. l .pairs) ls)
+level-count leaves i [] = refl
+level-count leaves i (l ∷ ls) =
+    omega (
+      arith,
+      length-append (map (joined leaves i (l .rotation .0)) (l .pairs)) (levelSwitches leaves (suc i) ls),
+      length-map (l .pairs) (joined leaves i (l .rotation .0)),
+      length-append (l .pairs) (join (λ l. l .pairs) ls),
+      level-count leaves (suc i) ls,
+    )
+
+pub giant-count : (slots : ℕ) (strategy : LinearTransformationStrategy) (ks : List ℕ) → length (giantSchedule slots strategy ks) ≡ giantSwitches slots strategy ks
+unfolding giantSchedule giantSwitches treeSwitches
+giant-count slots (Bsgs width) ks = let gs = giants slots width ks in length-map (nonzeros gs) (λ g. giant (placeOf g gs) g)
+giant-count slots (BsgsPowersOfTwo width) ks = let t = planTree slots width ks in level-count (t .leaves) 0 (t .levels)
+giant-count slots Direct ks = let gs = giants slots 1 ks in length-map (nonzeros gs) (λ g. giant (placeOf g gs) g)
+
+-- as many as the plan says
+pub schedule-count : (slots : ℕ) (strategy : LinearTransformationStrategy) (ks : List ℕ) → length (schedule slots strategy ks) ≡ planSwitches slots strategy ks
+unfolding planSwitches
+schedule-count slots strategy ks =
+    omega (arith, length-append (babySchedule slots strategy ks) (giantSchedule slots strategy ks), baby-count slots strategy ks, giant-count slots strategy ks)
