@@ -3,3 +3,4 @@ pub mod Plans
 pub mod Places
 pub mod Schedules
 pub mod PassSchedules
+pub mod Switching
