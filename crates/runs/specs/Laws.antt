@@ -1,3 +1,4 @@
 -- What is proved of the definitions.
 pub mod Plans
 pub mod Places
+pub mod NodePlaces
