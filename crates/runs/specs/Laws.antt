@@ -2,3 +2,4 @@
 pub mod Plans
 pub mod Places
 pub mod NodePlaces
+pub mod Turnings
