@@ -3,3 +3,4 @@ pub mod Plans
 pub mod Places
 pub mod NodePlaces
 pub mod Turnings
+pub mod TreeSums
