@@ -4,3 +4,4 @@ pub mod Places
 pub mod NodePlaces
 pub mod Turnings
 pub mod TreeSums
+pub mod TreeLevels
