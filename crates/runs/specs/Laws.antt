@@ -5,3 +5,5 @@ pub mod NodePlaces
 pub mod Turnings
 pub mod TreeSums
 pub mod TreeLevels
+pub mod TreeAnswers
+pub mod NodeTurns

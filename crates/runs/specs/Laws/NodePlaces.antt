@@ -49,6 +49,14 @@ place-of (x ∷ xs) k r h = by (ℕ-discrete x k) (place-of xs k (r .1))
         earlier f a zero l = each-among (λ y. x < y) xs (r .0) k a
         earlier f a (suc j) l = f .before j (le-of-suc-le-suc l)
 
+-- the place of the one that stands at place k
+pub place-at : (xs : List ℕ) → Rising xs → (k : ℕ) → k < length xs → placeOf (getD xs k 0) xs ≡ k
+place-at [] r k l = absurd (not-suc-le-zero l)
+place-at (x ∷ xs) r zero l = rw (eq-eqb x x refl)
+place-at (x ∷ xs) r (suc k) l =
+    let n : x < getD xs k 0 = each-at (λ y. x < y) xs 0 (r .0) k (le-of-suc-le-suc l) in
+    rw (ne-eqb x (getD xs k 0) (λ e. omega arith)) (ap suc (place-at xs (r .1) k (le-of-suc-le-suc l)))
+
 -- ---- nodes
 
 pub half-node : (l i : ℕ) → l / 2 ^ suc i ≡ l / 2 ^ i / 2

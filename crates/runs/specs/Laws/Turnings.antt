@@ -5,14 +5,14 @@ use mathlib.Core.Path.{_≡_, refl, sym, ap, _∙_}
 use mathlib.Core.List.{List, [], _∷_, _++_}
 use lib.IntN.{pos}
 use lib.ListN.{length, getD}
-use Rattle.ring.specs.Lists.{Each}
+use Rattle.ring.specs.Lists.{Each, sumBy}
 use Rattle.ring.specs.Slots.{addm}
 use Rattle.ring.specs.Vectors.{tabulate}
 use Rattle.ring.specs.Laws.Residues.{residue-pos}
 use Rattle.ring.specs.Laws.Rotations.{length-rotated, getD-rotated}
 use Rattle.ring.specs.Laws.Vectors.{length-tabulate, getD-tabulate}
 use Rattle.runs.specs.Switches.{Switch}
-use Rattle.runs.specs.Machines.{State, turned, summed, cacheAfter, nodesAfter, switched, switchedAll}
+use Rattle.runs.specs.Machines.{State, vectorAt, turned, summed, cacheAfter, nodesAfter, switched, switchedAll}
 
 -- ---- vectors
 
@@ -59,3 +59,13 @@ module _ (m slots : ℕ) (input : List ℕ) where
   unfolding switched
   switched-cache st [] h = refl
   switched-cache st (w ∷ ws) h = switched-cache (switched m slots input st w) ws (h .1) ∙ h .0 .same (st .cache)
+
+-- ---- the giant switches
+
+-- what the giant switches leave from st on: the answer is the sum of the giants' vectors, each turned by its giant, and all
+-- but the nodes' words and the log is kept
+pub record Finished (m slots : ℕ) (gs : List ℕ) (st after : State) (answer : List ℕ) : Type 0 where
+  pub slot : (s : ℕ) → s < slots → getD answer s 0 ≡ sumBy m (λ place. getD (vectorAt slots (st .nodes) place) ((s + getD gs place 0) % slots) 0) (tabulate (length gs) (λ place. place))
+  pub nodes-size : length (after .nodes) ≡ length (st .nodes)
+  pub cache-kept : after .cache ≡ st .cache
+  pub out-kept : after .out ≡ st .out
