@@ -11,7 +11,7 @@ use native.Mathlib.Omega.{arith}
 use borrow.Author.Tests.{eq-eqb, ne-eqb}
 use lib.Dec.{eqb}
 use lib.ListN.{length, getD}
-use Rattle.ring.specs.Lists.{Each, Rising, among}
+use Rattle.ring.specs.Lists.{Rising, among}
 use Rattle.ring.specs.Laws.Lists.{each-at}
 use Rattle.ring.specs.Laws.Searches.{lt-or-ge}
 use Rattle.ring.specs.Laws.Members.{right, left, among-rest, each-among}

@@ -1,6 +1,6 @@
 -- Laws of the giant switches per rotation: each giant's vector is turned once, by its giant, where it stands.
 -- Assumes nothing.
-use Prim.Native.Nat.{ℕ, zero, suc, _+_, _*_, _%_, _≤_, _<_}
+use Prim.Native.Nat.{ℕ, suc, _+_, _*_, _%_, _≤_, _<_}
 use mathlib.Core.Path.{_≡_, refl, sym, ap, _∙_}
 use mathlib.Core.Logic.{_⊎_, inl, inr}
 use mathlib.Core.List.{List, [], _∷_, map}
@@ -97,9 +97,9 @@ module _ (m slots : ℕ) (p : 0 < slots) (input gs : List ℕ) (rises : Rising g
       (record { size = refl; done = λ q h i s l. absurd (not-suc-le-zero h); todo = λ q h i. refl }) in
       record {
         slot = λ s l.
-        getD-tabulate slots (λ s. sumBy m (λ place. getD (vectorAt slots nodes place) s 0) (tabulate (length gs) (λ place. place))) s 0 l
-        ∙ sumBy-each m (λ place. getD (vectorAt slots nodes place) s 0) (λ place. getD (vectorAt slots (st .nodes) place) ((s + getD gs place 0) % slots) 0) (tabulate (length gs) (λ place. place))
-        (each-tabulate (λ place. getD (vectorAt slots nodes place) s 0 ≡ getD (vectorAt slots (st .nodes) place) ((s + getD gs place 0) % slots) 0) (length gs) (λ place. place) (λ q h. t .done q h h s l));
+            getD-tabulate slots (λ s. sumBy m (λ place. getD (vectorAt slots nodes place) s 0) (tabulate (length gs) (λ place. place))) s 0 l
+            ∙ sumBy-each m (λ place. getD (vectorAt slots nodes place) s 0) (λ place. getD (vectorAt slots (st .nodes) place) ((s + getD gs place 0) % slots) 0) (tabulate (length gs) (λ place. place))
+            (each-tabulate (λ place. getD (vectorAt slots nodes place) s 0 ≡ getD (vectorAt slots (st .nodes) place) ((s + getD gs place 0) % slots) 0) (length gs) (λ place. place) (λ q h. t .done q h h s l));
         nodes-size = t .size;
         cache-kept = switched-cache m slots input st (ownGiants gs) (each-map (KeepsCache m slots input) (λ g. giant (placeOf g gs) g) (nonzeros gs) (each-all (λ g. record { same = λ cache. refl }) (nonzeros gs)));
         out-kept = switched-out m slots input st (ownGiants gs);

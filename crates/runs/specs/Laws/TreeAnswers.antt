@@ -1,6 +1,6 @@
 -- Laws of the finished tree: its top node is the sum of the giants' vectors, each turned by its giant.
 -- Assumes nothing.
-use Prim.Native.Nat.{ℕ, zero, suc, _+_, _*_, _/_, _%_, _^_, _≤_, _<_}
+use Prim.Native.Nat.{ℕ, zero, suc, _+_, _*_, _%_, _^_, _≤_, _<_}
 use mathlib.Core.Path.{_≡_, refl, sym, ap, _∙_}
 use mathlib.Core.Bool.{true}
 use mathlib.Core.List.{List, [], _∷_, map, map-map, map-id}
@@ -28,7 +28,7 @@ use Rattle.runs.specs.Laws.Places.{getD-vectorAt}
 use Rattle.runs.specs.Laws.NodePlaces.{node-first, top-there}
 use Rattle.runs.specs.Laws.Turnings.{KeepsCache, switched-cache, switched-out, Finished}
 use Rattle.runs.specs.Laws.TreeSums.{nodeValue, value-leaf, value-top}
-use Rattle.runs.specs.Laws.TreeLevels.{Standing, Stands, levels-stand}
+use Rattle.runs.specs.Laws.TreeLevels.{Stands, levels-stand}
 
 -- an element of a list, each replaced
 getD-map-in : (f : ℕ → ℕ) (xs : List ℕ) (q : ℕ) → q < length xs → getD (map f xs) q 0 ≡ f (getD xs q 0)
@@ -114,7 +114,7 @@ module _ (m slots width : ℕ) (ks : List ℕ) (p : Planned slots width ks) (h :
   abbrev leaves : List ℕ
   leaves = planTree slots width ks .leaves
 
-  abbrev same : length leaves ≡ length (giants slots width ks)
+  same : length leaves ≡ length (giants slots width ks)
   same = length-leaves slots width ks
 
   space : length leaves * slots ≤ length (st .nodes)
@@ -129,14 +129,14 @@ module _ (m slots width : ℕ) (ks : List ℕ) (p : Planned slots width ks) (h :
       record {
         size = refl;
         at = λ u t.
-        let f = node-first leaves rises 0 u t in
-        let k = nodePlace leaves 0 u in
-        let e : getD leaves k 0 ≡ u = sym (div-one (getD leaves k 0)) ∙ f .under in
-        record {
-          slot = λ s l.
-          sym (ap (λ (x : ℕ). nodeValue m slots width b leaves (st .nodes) 0 x s) (sym e)
-          ∙ value-leaf m slots width b leaves (st .nodes) rises k s (f .inside) l (word k s (f .inside) l))
-        };
+            let f = node-first leaves rises 0 u t in
+            let k = nodePlace leaves 0 u in
+            let e : getD leaves k 0 ≡ u = sym (div-one (getD leaves k 0)) ∙ f .under in
+            record {
+              slot = λ s l.
+                  sym (ap (λ (x : ℕ). nodeValue m slots width b leaves (st .nodes) 0 x s) (sym e)
+                  ∙ value-leaf m slots width b leaves (st .nodes) rises k s (f .inside) l (word k s (f .inside) l));
+            };
       }
     where
       word : (k s : ℕ) → k < length leaves → s < slots → getD (vectorAt slots (st .nodes) k) s 0 % m ≡ getD (vectorAt slots (st .nodes) k) s 0
@@ -160,9 +160,9 @@ module _ (m slots width : ℕ) (ks : List ℕ) (p : Planned slots width ks) (h :
   tree-answer =
       record {
         slot = λ s l. top-slot slots b leaves nodes s (total (length gs') s) l (λ o. leaf-low slots width ks 0 (rw same at o)) (λ e. ap (λ (n : ℕ). total n s) (sym e ∙ same))
-        (λ t. all-stand .at 0 t .slot s l
-        ∙ value-top m slots width b leaves (st .nodes) (λ q. getD gs' q 0) (λ q o. leaf-low slots width ks q (rw same at o)) (λ q o. leaf-turns slots width ks p q (rw same at o)) s
-        ∙ ap (λ (n : ℕ). total n s) same);
+            (λ t. all-stand .at 0 t .slot s l
+            ∙ value-top m slots width b leaves (st .nodes) (λ q. getD gs' q 0) (λ q o. leaf-low slots width ks q (rw same at o)) (λ q o. leaf-turns slots width ks p q (rw same at o)) s
+            ∙ ap (λ (n : ℕ). total n s) same);
         nodes-size = all-stand .size;
         cache-kept = switched-cache m slots input st (treeSchedule (planTree slots width ks)) (levels-keep m slots input leaves 0 (planTree slots width ks .levels));
         out-kept = switched-out m slots input st (treeSchedule (planTree slots width ks));

@@ -1,11 +1,11 @@
 -- Laws of the tree's switches in place: after the levels below i each node of level i stands at its place.
 -- Assumes nothing.
-use Prim.Native.Nat.{ℕ, zero, suc, _+_, _*_, _-_, _/_, _%_, _^_, _≤_, _<_}
+use Prim.Native.Nat.{ℕ, zero, suc, _+_, _*_, _-_, _%_, _^_, _≤_, _<_}
 use mathlib.Core.Path.{_≡_, refl, sym, ap, ap₂, _∙_}
 use mathlib.Core.Bool.{Bool, true, false, _||_, or-false}
 use mathlib.Core.Logic.{_⊎_, inl, inr, ⊎-elim}
-use mathlib.Core.List.{List, [], _∷_, _++_, map, map-append}
-use native.Mathlib.Nat.{le-refl, add-zero, add-suc, not-suc-le-zero, le-of-suc-le-suc, eq-or-lt-of-le, add-sub-cancel, mod-lt}
+use mathlib.Core.List.{List, _++_, map, map-append}
+use native.Mathlib.Nat.{le-refl, add-zero, not-suc-le-zero, le-of-suc-le-suc, eq-or-lt-of-le, add-sub-cancel, mod-lt}
 use native.Mathlib.Omega.{arith}
 use lib.Pow as Pow
 use lib.ListN.{length, getD}
@@ -15,7 +15,7 @@ use Rattle.ring.specs.Searches.{below, only}
 use Rattle.ring.specs.Vectors.{tabulate}
 use Rattle.ring.specs.Laws.Slots.{addm-comm, zero-addm}
 use Rattle.linear_transformation.specs.Digits.{levelRotation}
-use Rattle.linear_transformation.specs.Trees.{there, Pair, Level, pairsAt}
+use Rattle.linear_transformation.specs.Trees.{there, Level, pairsAt}
 use Rattle.linear_transformation.specs.Laws.Trees.{there-half, odds, odds-more, withEven, pairs-odds}
 use Rattle.runs.specs.Switches.{Switch, nodePlace, joined, levelSwitches}
 use Rattle.runs.specs.Machines.{State, vectorAt, putVector, turned, summed, switched, switchedAll}
@@ -66,8 +66,8 @@ module _ (m slots step b : ℕ) (p : 0 < slots) (input leaves first : List ℕ) 
           done = λ w h k. done-by w k (eq-or-lt-of-le (le-of-suc-le-suc h));
           todo = λ u h k. record {
             slot = λ s l.
-            ap (λ (v : List ℕ). getD v s 0) (vector-other slots x len here (nodePlace leaves i u) (place-apart leaves rises i u n k t (λ z. omega arith)) (inside i u k))
-            ∙ r .todo u (omega arith) k .slot s l
+                ap (λ (v : List ℕ). getD v s 0) (vector-other slots x len here (nodePlace leaves i u) (place-apart leaves rises i u n k t (λ z. omega arith)) (inside i u k))
+                ∙ r .todo u (omega arith) k .slot s l;
           };
         }
       where
@@ -79,8 +79,8 @@ module _ (m slots step b : ℕ) (p : 0 < slots) (input leaves first : List ℕ) 
         done-by w k (inr l) =
             record {
               slot = λ s h.
-              ap (λ (v : List ℕ). getD v s 0) (vector-other slots x len here (nodePlace leaves (suc i) w) (place-other leaves rises (suc i) w n k t (λ z. omega arith)) (inside (suc i) w k))
-              ∙ r .done w l k .slot s h
+                  ap (λ (v : List ℕ). getD v s 0) (vector-other slots x len here (nodePlace leaves (suc i) w) (place-other leaves rises (suc i) w n k t (λ z. omega arith)) (inside (suc i) w k))
+                  ∙ r .done w l k .slot s h;
             }
 
     above : (e t : Bool) → there leaves i (2 * n) ≡ e → there leaves i (2 * n + 1) ≡ t → there leaves (suc i) n ≡ (e || t)
@@ -92,14 +92,14 @@ module _ (m slots step b : ℕ) (p : 0 < slots) (input leaves first : List ℕ) 
         let t : there leaves i (2 * n) ≡ true = x ∙ sym (or-false e) ∙ sym (above e false x y) ∙ k in
         record {
           slot = λ s l.
-          let z = (s + levelRotation slots step b i .0) % slots in
-          ap (λ (q : ℕ). getD (vectorAt slots nodes q) s 0) (place-even i n t)
-          ∙ r .todo (2 * n) (le-refl (2 * n)) t .slot s l
-          ∙ sym (value-half m slots step b leaves first i n s
-          ∙ ap (addm m (value i (2 * n) s)) (value-none m slots step b leaves first i (2 * n + 1) z y)
-          ∙ addm-comm m (value i (2 * n) s) 0
-          ∙ zero-addm m (value i (2 * n) s)
-          ∙ value-mod m slots step b leaves first i (2 * n) s)
+              let z = (s + levelRotation slots step b i .0) % slots in
+              ap (λ (q : ℕ). getD (vectorAt slots nodes q) s 0) (place-even i n t)
+              ∙ r .todo (2 * n) (le-refl (2 * n)) t .slot s l
+              ∙ sym (value-half m slots step b leaves first i n s
+              ∙ ap (addm m (value i (2 * n) s)) (value-none m slots step b leaves first i (2 * n + 1) z y)
+              ∙ addm-comm m (value i (2 * n) s) 0
+              ∙ zero-addm m (value i (2 * n) s)
+              ∙ value-mod m slots step b leaves first i (2 * n) s);
         }
 
     -- the odd's vector, turned

@@ -1,9 +1,9 @@
 -- Laws of what the tree's nodes stand for: slot by slot the sum over the giants under the node, each turned by the
 -- rotations of the levels below at which its leaf has a bit.
 -- Assumes nothing.
-use Prim.Native.Nat.{ℕ, zero, suc, _+_, _*_, _/_, _%_, _^_, _<_}
+use Prim.Native.Nat.{ℕ, suc, _+_, _*_, _/_, _%_, _^_, _<_}
 use mathlib.Core.Path.{_≡_, refl, sym, ap, _∙_}
-use mathlib.Core.Bool.{Bool, true, false, cond, true≢false}
+use mathlib.Core.Bool.{false, cond, true≢false}
 use mathlib.Core.Logic.{_≢_, ⊎-elim}
 use mathlib.Core.List.{List}
 use native.Mathlib.Nat.{div-one, div-eq-of-lt, mod-eq-of-lt, add-zero, zero-mod, zero-mul, one-mul, mod-add-mod, add-mod-mod}

@@ -1,7 +1,7 @@
--- Laws of switches made one after the other: what they keep, and a vector turned, by its slots.
+-- Laws of vectors turned and summed, by their slots, and of switches made one after the other: what they keep.
 -- Assumes nothing.
 use Prim.Native.Nat.{ℕ, _+_, _%_, _<_}
-use mathlib.Core.Path.{_≡_, refl, sym, ap, _∙_}
+use mathlib.Core.Path.{_≡_, refl, ap, _∙_}
 use mathlib.Core.List.{List, [], _∷_, _++_}
 use lib.IntN.{pos}
 use lib.ListN.{length, getD}
@@ -12,7 +12,7 @@ use Rattle.ring.specs.Laws.Residues.{residue-pos}
 use Rattle.ring.specs.Laws.Rotations.{length-rotated, getD-rotated}
 use Rattle.ring.specs.Laws.Vectors.{length-tabulate, getD-tabulate}
 use Rattle.runs.specs.Switches.{Switch}
-use Rattle.runs.specs.Machines.{State, vectorAt, turned, summed, cacheAfter, nodesAfter, switched, switchedAll}
+use Rattle.runs.specs.Machines.{State, vectorAt, turned, summed, cacheAfter, switched, switchedAll}
 
 -- ---- vectors
 
@@ -36,10 +36,6 @@ module _ (m slots : ℕ) (v w : List ℕ) where
 -- ---- switches
 
 module _ (m slots : ℕ) (input : List ℕ) where
-  pub switched-nodes : (st : State) (w : Switch) → switched m slots input st w .nodes ≡ nodesAfter m slots (st .nodes) w
-  unfolding switched
-  switched-nodes st w = refl
-
   -- one list of switches after another
   pub switched-append : (st : State) (xs ys : List Switch) → switchedAll m slots input st (xs ++ ys) ≡ switchedAll m slots input (switchedAll m slots input st xs) ys
   switched-append st [] ys = refl
