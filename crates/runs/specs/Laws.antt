@@ -4,3 +4,9 @@ pub mod Places
 pub mod Schedules
 pub mod PassSchedules
 pub mod Switching
+pub mod NodePlaces
+pub mod Turnings
+pub mod TreeSums
+pub mod TreeLevels
+pub mod TreeAnswers
+pub mod NodeTurns
