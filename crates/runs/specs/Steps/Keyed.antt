@@ -1,21 +1,22 @@
 -- What the private steps of the keyed run ask and ensure.
 -- Assumes nothing.
-use Prim.Native.Nat.{ℕ, suc, _+_, _-_, _*_, _%_, _≤_, _<_}
+use Prim.Native.Nat.{ℕ, zero, suc, _+_, _-_, _*_, _%_, _≤_, _<_}
 use mathlib.Core.Path.{_≡_}
 use mathlib.Core.Bool.{true, false, cond}
 use mathlib.Core.List.{List, [], _∷_}
 use lib.Dec.{ltb}
 use lib.ListN.{length, getD, take}
 use Rattle.ring.specs.Slots.{modulus, addm, mulm}
-use Rattle.ring.specs.Lists.{join, sumBy, among, Rising}
-use Rattle.ring.specs.Vectors.{tabulate}
+use Rattle.ring.specs.Lists.{join, sumBy, among, Each, Rising}
+use Rattle.ring.specs.Vectors.{tabulate, inFront}
 use Rattle.diagonals.specs.Maps.{Diagonal, offsetsOf, offsetAt, diagonalAt, startAt}
 use Rattle.diagonals.specs.Products.{cell}
 use Rattle.linear_transformation.specs.Plans.{babiesAt}
 use Rattle.linear_transformation.specs.Closures.{nonzeros}
 use Rattle.linear_transformation.specs.Trees.{Pair, Level}
-use Rattle.runs.specs.Switches.{Switch, sourceOf}
+use Rattle.runs.specs.Switches.{Switch, sourceOf, rotationOf}
 use Rattle.runs.specs.Machines.{sourceVector, cacheAfter, nodesAfter}
+use Rattle.runs.specs.Laws.PassSchedules.{topTurn, making}
 
 -- ---- vectors of one buffer
 
@@ -91,3 +92,46 @@ levelOf (l ∷ ls) q = cond (ltb q (length (l .pairs))) 0 (suc (levelOf ls (q - 
 
 abbrev pub pairOf : List Level → ℕ → Pair
 pairOf ls q = getD (join (λ l. l .pairs) ls) q (record { odd = 0; even-there = false })
+
+-- ---- baby switches
+
+-- the rotation that makes baby v; step 0: each rotation has its own key
+abbrev pub turnBy : ℕ → ℕ → ℕ
+turnBy zero v = v
+turnBy (suc c) v = topTurn (suc c) v
+
+pub record Listed (bs : List ℕ) (k : ℕ) : Type 0 where
+  pub rises : Rising bs
+  pub has : among k bs ≡ true
+
+-- a plan's babies, 0 first, and room for the vectors of the others
+pub record Babies (bs input cache : List ℕ) : Type 0 where
+  pub rises : Rising bs
+  pub front : bs ≡ 0 ∷ nonzeros bs
+  pub room : length (nonzeros bs) * length input ≤ length cache
+
+pub record Reading (bs : List ℕ) (k : ℕ) (input cache : List ℕ) : Type 0 where
+  pub babies : Babies bs input cache
+  pub has : among k bs ≡ true
+
+-- a baby that a step makes
+pub record Turnable (v step : ℕ) : Type 0 where
+  pub low : step ≤ v
+  pub small : v < 65536
+
+-- with the step each baby is made from 0 or from an earlier one
+pub record Caching (bs : List ℕ) (step : ℕ) (input cache : List ℕ) : Type 0 where
+  pub babies : Babies bs input cache
+  pub some : 1 ≤ length input
+  pub small : length input ≤ 65536
+  pub low : Each (λ b. b < length input) bs
+  pub steps : Each (λ b. step ≤ b) (nonzeros bs)
+  pub closed : Each (λ b. among (b - turnBy step b) bs ≡ true) (nonzeros bs)
+
+pub record BabyMade (bs : List ℕ) (step p : ℕ) (input old new : List ℕ) (r : ℕ) : Type 0 where
+  pub cache : new ≡ cacheAfter (length input) input old (making bs (turnBy step) p)
+  pub turn : r ≡ turnBy step (getD (nonzeros bs) p 0)
+
+pub record BabiesMade (bs : List ℕ) (step n : ℕ) (input old new log log' : List ℕ) : Type 0 where
+  pub cache : new ≡ cacheBy (length input) input old (tabulate n (making bs (turnBy step)))
+  pub logged : log' ≡ inFront (tabulate n (λ p. rotationOf (making bs (turnBy step) p))) log
