@@ -4,3 +4,4 @@ pub mod Places
 pub mod Schedules
 pub mod PassSchedules
 pub mod Switching
+pub mod Caches
