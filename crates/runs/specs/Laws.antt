@@ -5,3 +5,4 @@ pub mod Schedules
 pub mod PassSchedules
 pub mod Switching
 pub mod Caches
+pub mod NodeSums
