@@ -87,7 +87,7 @@ module _
     planned = distinct-planned (map-distinct slots p ds f) (widthOf strategy) w
 
     -- what offset j adds at slot s
-    abbrev at-offset : ℕ → ℕ → ℕ
+    abbrev pub at-offset : ℕ → ℕ → ℕ
     at-offset s j = mulm m (getD input ((s + j) % slots) 0) (cell (stretch ds j) s)
 
     -- what baby k adds to node g, g slots on
