@@ -6,4 +6,4 @@ pub mod Adding
 pub mod Putting
 pub mod Reversing
 pub mod TwoRuns
-pub mod Caching
+pub mod Babies

@@ -4,6 +4,8 @@ pub mod Places
 pub mod Schedules
 pub mod PassSchedules
 pub mod Switching
+pub mod Caches
+pub mod NodeSums
 pub mod NodePlaces
 pub mod Turnings
 pub mod TreeSums

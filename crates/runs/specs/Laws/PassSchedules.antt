@@ -79,12 +79,12 @@ targets-group [] i = refl
 targets-group (zero ∷ cs) i = targets-group cs i
 targets-group (suc k ∷ cs) i = rw (ne-eqb (suc k) 0 (suc-ne-zero k)) (ap (λ (t : List ℕ). only (eqb (topBit (suc k)) i) (suc k) ++ t) (targets-group cs i))
 
-nonzeros-positive : (xs : List ℕ) → Each (λ k. 1 ≤ k) (nonzeros xs)
+pub nonzeros-positive : (xs : List ℕ) → Each (λ k. 1 ≤ k) (nonzeros xs)
 nonzeros-positive [] = tt
 nonzeros-positive (zero ∷ xs) = nonzeros-positive xs
 nonzeros-positive (suc x ∷ xs) = rw (ne-eqb (suc x) 0 (suc-ne-zero x)) (omega arith, nonzeros-positive xs)
 
-nonzeros-each : (P : ℕ → Type 0) (xs : List ℕ) → Each P xs → Each P (nonzeros xs)
+pub nonzeros-each : (P : ℕ → Type 0) (xs : List ℕ) → Each P xs → Each P (nonzeros xs)
 nonzeros-each P [] h = tt
 nonzeros-each P (zero ∷ xs) h = nonzeros-each P xs (h .1)
 nonzeros-each P (suc x ∷ xs) h = rw (ne-eqb (suc x) 0 (suc-ne-zero x)) (h .0, nonzeros-each P xs (h .1))

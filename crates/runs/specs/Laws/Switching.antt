@@ -1,7 +1,7 @@
 -- Laws of switches made one after the other: what they keep, what they write, and what they log.
 -- Assumes nothing.
 use Prim.Native.Nat.{ℕ, suc, _+_, _*_, _≤_}
-use mathlib.Core.Path.{_≡_, refl, sym, _∙_}
+use mathlib.Core.Path.{_≡_, refl, sym, ap, _∙_}
 use mathlib.Core.List.{List, [], _∷_, _++_, map, append-nil, append-assoc}
 use native.Mathlib.Nat.{add-zero, mul-le-mul-right, suc-mul}
 use native.Mathlib.Omega.{arith}
@@ -149,6 +149,12 @@ module _ (m slots : ℕ) (input : List ℕ) where
       let len : length words ≡ n + suc (length ws) = length-append (take n old) (rotationOf w ∷ map rotationOf ws) ∙ rw (length-take-le n old (omega arith), length-map ws rotationOf) in
       switches-log (switched m slots input st w) ws (rw (length-set old n (rotationOf w)) (omega arith))
       ∙ rw (take-suc-set old n (rotationOf w) (omega arith), append-assoc (take n old) (rotationOf w ∷ []) (map rotationOf ws), drop-set-lt (length words) old n (rotationOf w) (omega arith))
+
+  -- from the first switch on they are in front
+  pub switches-logged : (st : State) (ws : List Switch) → st .made ≡ 0 → length ws ≤ length (st .log) → switchedAll m slots input st ws .log ≡ inFront (map rotationOf ws) (st .log)
+  switches-logged st ws e h =
+      switches-log st ws (omega arith)
+      ∙ ap (λ (n : ℕ). inFront (take n (st .log) ++ map rotationOf ws) (st .log)) e
 
 -- ---- the switches of a plan
 

@@ -2,7 +2,7 @@
 use native.Mathlib.Omega.{arith}
 use borrow.Author.Needs.{needs}
 use Prim.Native.Nat.{_-_}
-use Rattle.runs.proofs.Caching.{Between, between-all, between-up, between-down}
+use Rattle.runs.proofs.Babies.{Between, between-all, between-up, between-down}
 use Rattle.runs.proofs.caching.place_of.Statement.{statement}
 use Rattle.runs.proofs.caching.place_of.Tie as tie
 

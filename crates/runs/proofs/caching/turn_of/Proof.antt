@@ -2,7 +2,7 @@
 use native.Mathlib.Omega.{arith}
 use borrow.Author.Needs.{needs}
 use Prim.Native.Nat.{_-_}
-use Rattle.runs.proofs.Caching.{Doubled, doubled-none, doubled-more, doubled-done, turn-some}
+use Rattle.runs.proofs.Babies.{Doubled, doubled-none, doubled-more, doubled-done, turn-some}
 use Rattle.runs.proofs.caching.turn_of.Statement.{statement}
 use Rattle.runs.proofs.caching.turn_of.Tie as tie
 
