@@ -6,7 +6,7 @@ ghost use lib.ListN.{length};
 ghost use Rattle.linear_transformation.specs.Closures.{nonzeros};
 ghost use Rattle.runs.specs.Switches.{placeOf, sourceOf};
 ghost use Rattle.runs.specs.Machines.{sourceVector};
-ghost use Rattle.runs.specs.Steps.Keyed.{turnBy, Listed, Babies, Reading, Turnable, Caching, BabyMade, BabiesMade};
+ghost use Rattle.runs.specs.Steps.Keyed.{Listed, Reading, Turnable, TurnIs, Caching, BabyMade, BabiesMade};
 
 // The place of a number in a rising list that has it.
 fn place_of(babies: &[u32], baby: u32) -> usize
@@ -49,7 +49,7 @@ pub(crate) fn rotated_input<'a>(
 // of the step. Step 0 says that each rotation has its own key.
 fn turn_of(baby: u32, step: u32) -> u32
     requires { ⌜ Turnable baby step ⌝ }
-    ensures { λ r. ⌜ r ≡ turnBy step baby ⌝ }
+    ensures { λ r. ⌜ TurnIs baby step r ⌝ }
 {
     if step == 0 {
         return baby;

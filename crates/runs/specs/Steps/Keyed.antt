@@ -116,8 +116,14 @@ pub record Reading (bs : List ℕ) (k : ℕ) (input cache : List ℕ) : Type 0 w
 
 -- a baby that a step makes
 pub record Turnable (v step : ℕ) : Type 0 where
+  pub some : 1 ≤ v
   pub low : step ≤ v
   pub small : v < 65536
+
+pub record TurnIs (v step r : ℕ) : Type 0 where
+  pub is : r ≡ turnBy step v
+  pub some : 1 ≤ r
+  pub within : r ≤ v
 
 -- with the step each baby is made from 0 or from an earlier one
 pub record Caching (bs : List ℕ) (step : ℕ) (input cache : List ℕ) : Type 0 where

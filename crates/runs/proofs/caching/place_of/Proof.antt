@@ -13,7 +13,7 @@ abbrev μ-loop : tie.MeasureT-loop
 μ-loop babies baby low₀ high₀ low high = high - low
 
 loop-holds : tie.Need-loop-holds Inv-loop μ-loop
-loop-holds c = between-all (c .before .pre)
+loop-holds c = between-all (c .pre)
 
 add-loop : tie.Need-add-loop Inv-loop μ-loop
 add-loop c = search needs
@@ -34,16 +34,16 @@ loop-less : tie.Need-loop-less Inv-loop μ-loop
 loop-less c = search needs
 
 loop-again : tie.Need-loop-again Inv-loop μ-loop
-loop-again c = ?
+loop-again c = let l = c .before .before .before in between-up (l .before .pre) (l .loop .inv) _ (omega arith) (c .if1 .taken)
 
 loop-less-2 : tie.Need-loop-less-2 Inv-loop μ-loop
 loop-less-2 c = search needs
 
 loop-again-2 : tie.Need-loop-again-2 Inv-loop μ-loop
-loop-again-2 c = ?
+loop-again-2 c = let l = c .before .before .before in between-down (l .before .pre) (l .loop .inv) _ (omega arith) (c .if1 .left)
 
 returns : tie.Need-returns Inv-loop μ-loop
-returns c = ?
+returns c = omega (arith, c .before .loop .inv .from, c .before .loop .inv .below)
 
 pub place-of-spec : {M : Type 1} → statement M
 place-of-spec =
