@@ -10,3 +10,4 @@ pub mod TreeSums
 pub mod TreeLevels
 pub mod TreeAnswers
 pub mod NodeTurns
+pub mod Folds
