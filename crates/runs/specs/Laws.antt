@@ -11,3 +11,5 @@ pub mod TreeLevels
 pub mod TreeAnswers
 pub mod NodeTurns
 pub mod Folds
+pub mod NodeRuns
+pub mod PlanWords
