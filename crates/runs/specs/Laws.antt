@@ -11,5 +11,7 @@ pub mod TreeLevels
 pub mod TreeAnswers
 pub mod NodeTurns
 pub mod Folds
+pub mod Elements
 pub mod NodeRuns
 pub mod PlanWords
+pub mod PairSchedules

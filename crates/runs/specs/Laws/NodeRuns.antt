@@ -27,16 +27,11 @@ use Rattle.linear_transformation.specs.Laws.Widths.{distinct-planned}
 use Rattle.runs.specs.Switches.{sourceOf}
 use Rattle.runs.specs.Machines.{sourceVector, nodeAt}
 use Rattle.runs.specs.Steps.Keyed.{firstOf, sizeOf, nodeTerm, nodeRun}
+use Rattle.runs.specs.Laws.Elements.{mapped-at}
 use Rattle.runs.specs.Laws.Plans.{map-distinct}
 use Rattle.runs.specs.Laws.Schedules.{plan-babies-have}
 
 -- ---- lists one after the other
-
--- an element of a list mapped
-mapped-at : (f : ℕ → ℕ) (xs : List ℕ) (i : ℕ) → i < length xs → getD (map f xs) i 0 ≡ f (getD xs i 0)
-mapped-at f [] i l = absurd (not-suc-le-zero l)
-mapped-at f (x ∷ xs) zero l = refl
-mapped-at f (x ∷ xs) (suc i) l = mapped-at f xs i (le-of-suc-le-suc l)
 
 -- sums over two tables, equal place by place
 sum-tables : (m n : ℕ) (f g a b : ℕ → ℕ) → ((i : ℕ) → i < n → f (a i) ≡ g (b i)) → sumBy m f (tabulate n a) ≡ sumBy m g (tabulate n b)
@@ -135,7 +130,7 @@ module _ {slots width : ℕ} {ks : List ℕ} (w : Planned slots width ks) where
         ap (λ (t : List ℕ). getD t (firstOf width ks listed p + i) 0) (sym (index-diagonals w))
         ∙ ap (λ (n : ℕ). getD (join f listed) (n + i) 0) (sym e)
         ∙ joined-at f listed p i l (rw (length-map (babiesAt width ks base) (λ b. base + b)) h)
-        ∙ mapped-at (λ b. base + b) (babiesAt width ks base) i h
+        ∙ mapped-at (λ b. base + b) (babiesAt width ks base) i 0 0 h
 
     -- and that is the diagonal's baby
     planned-baby : getD (babiesAt width ks base) i 0 ≡ babyOf width (getD ks (firstOf width ks listed p + i) 0)
@@ -143,7 +138,7 @@ module _ {slots width : ℕ} {ks : List ℕ} (w : Planned slots width ks) where
     planned-baby =
         sym (joined-at (babiesAt width ks) listed p i l h)
         ∙ ap (λ (t : List ℕ). getD t (firstOf width ks listed p + i) 0) (index-babies w)
-        ∙ mapped-at (babyOf width) ks (firstOf width ks listed p + i) (omega (arith, planned-inside p l))
+        ∙ mapped-at (babyOf width) ks (firstOf width ks listed p + i) 0 0 (omega (arith, planned-inside p l))
 
     planned-among : among (getD (babiesAt width ks base) i 0) (babies slots width ks) ≡ true
     planned-among =
