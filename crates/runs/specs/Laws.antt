@@ -12,3 +12,8 @@ pub mod TreeSums
 pub mod TreeLevels
 pub mod TreeAnswers
 pub mod NodeTurns
+pub mod Folds
+pub mod Elements
+pub mod NodeRuns
+pub mod PlanWords
+pub mod PairSchedules
