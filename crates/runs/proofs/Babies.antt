@@ -9,11 +9,15 @@ use native.Mathlib.Decide.{decLt, ℕ-discrete}
 use native.Mathlib.Omega.{arith}
 use borrow.Author.Tests.{ne-eqb}
 use lib.Dec.{eqb}
+use mir.Val.{toZ}
+use mir.ValLaws.{toZ-pos}
+use mir.Syntax.{w64}
 use lib.IntN.{ℤ, pos}
-use lib.ListN.{length, getD, set, take, drop, length-drop}
+use lib.ListN.{length, getD, set, take, drop, length-drop, length-set}
 use lib.Seq.{length-take-le}
 use Rattle.ring.specs.Lists.{among, Each, Rising}
-use Rattle.ring.specs.Vectors.{inFront, putAt}
+use Rattle.ring.specs.Vectors.{tabulate, inFront, putAt}
+use Rattle.ring.specs.Laws.Vectors.{length-tabulate, tabulate-more, inFront-more}
 use Rattle.ring.specs.Rotations.{rotated}
 use Rattle.ring.specs.Laws.Lists.{each-at}
 use Rattle.ring.specs.Laws.Rotations.{length-rotated}
@@ -22,13 +26,14 @@ use Rattle.ring.specs.Laws.Refusals.{not-outside, onAccept-accepted}
 use Rattle.diagonals.specs.Calls.{Rotated}
 use Rattle.linear_transformation.specs.Closures.{topBit, nonzeros}
 use Rattle.linear_transformation.specs.Laws.Closures.{top-unique}
-use Rattle.runs.specs.Switches.{placeOf, sourceOf}
+use Rattle.runs.specs.Switches.{placeOf, sourceOf, rotationOf}
 use Rattle.runs.specs.Machines.{vectorAt, putVector, turned, sourceVector}
-use Rattle.runs.specs.Laws.Places.{inside-first}
+use Rattle.runs.specs.Laws.Places.{inside-first, length-putVector}
+use Rattle.runs.specs.Laws.Folds.{cache-more}
 use Rattle.runs.specs.Laws.Schedules.{place-found, nonzeros-rise, among-nonzeros}
 use Rattle.runs.specs.Laws.NodePlaces.{rising-at}
-use Rattle.runs.specs.Laws.PassSchedules.{topTurn, nonzeros-positive, nonzeros-each}
-use Rattle.runs.specs.Steps.Keyed.{turnBy, Listed, Babies, Turnable, TurnIs, Caching, BabyMade, CopyTurn}
+use Rattle.runs.specs.Laws.PassSchedules.{topTurn, making, nonzeros-positive, nonzeros-each}
+use Rattle.runs.specs.Steps.Keyed.{turnBy, Listed, Babies, Turnable, TurnIs, Caching, BabyMade, BabiesMade, CopyTurn}
 
 -- ---- the place of a listed number
 
@@ -158,10 +163,11 @@ module _ {bs input cache : List ℕ} {step : ℕ} (c : Caching bs step input cac
     turn-low = omega (arith, t .within, baby-word, baby-low)
 
     -- from the input
-    pub from-input : getD bs (p + 1) 0 - turn ≡ 0 → (n : ℕ) → n ≡ slots → {shift : ℤ} → shift ≡ pos turn → {ys : List ℕ} {r : ℕ} → Rotated input shift (take n (drop (p * slots) cache)) ys r
-        → BabyMade bs step p input cache (take (p * slots) cache ++ (ys ++ drop n (drop (p * slots) cache))) turn
+    pub from-input : getD bs (p + 1) 0 - turn ≡ 0 → {shift : ℤ} → shift ≡ pos turn → {ys : List ℕ} {r : ℕ} → Rotated input shift (take (p * slots + slots - p * slots) (drop (p * slots) cache)) ys r
+        → BabyMade bs step p input cache (take (p * slots) cache ++ (ys ++ drop (p * slots + slots - p * slots) (drop (p * slots) cache))) turn
     unfolding putVector putAt inFront
-    from-input z n e i {ys} {r} q =
+    from-input z i {ys} {r} q =
+        let e : p * slots + slots - p * slots ≡ slots = omega arith in
         let len : length (take slots (drop (p * slots) cache)) ≡ slots = length-take-le slots (drop (p * slots) cache) (rw length-drop (omega (arith, baby-room))) in
         let out : Rotated input (pos turn) (take slots (drop (p * slots) cache)) ys r = rw (e, i) at q in
         let accepted : r ≡ 0 = out .answer ∙ rw (not-outside slots (c .some) (c .small), len, divides-yes slots slots (dvd-refl slots)) in
@@ -214,3 +220,48 @@ module _ {bs input cache : List ℕ} {step : ℕ} (c : Caching bs step input cac
           by : (k : ℕ) → 1 ≤ k → putVector slots cache p (turned slots (vectorAt slots cache (placeOf k (nonzeros bs))) turn) ≡ putVector slots cache p (turned slots (sourceVector slots input cache (sourceOf bs k)) turn)
           by zero h = absurd (omega arith)
           by (suc k) h = refl
+
+    -- as a signed word
+    pub turn-signed : toZ w64 turn ≡ pos turn
+    turn-signed = toZ-pos w64 turn (omega (arith, turn-low, c .small))
+
+-- ---- the switches, one after the other
+
+-- the room is that of the length alone
+pub caching-kept : {bs input old new : List ℕ} {step : ℕ} → Caching bs step input old → length new ≡ length old → Caching bs step input new
+caching-kept c e =
+    record {
+      babies = record { rises = c .babies .rises; front = c .babies .front; room = omega (arith, c .babies .room) };
+      some = c .some;
+      small = c .small;
+      low = c .low;
+      steps = c .steps;
+      closed = c .closed;
+    }
+
+pub record Making (bs : List ℕ) (step : ℕ) (input : List ℕ) (n : ℕ) (old new log log' : List ℕ) (p : ℕ) : Type 0 where
+  pub made : BabiesMade bs step p input old new log log'
+  pub len : length new ≡ length old
+  pub log-len : length log' ≡ length log
+  pub room : p ≤ n
+
+pub making-none : (bs : List ℕ) (step : ℕ) (input : List ℕ) (n : ℕ) (old log : List ℕ) → Making bs step input n old old log log 0
+unfolding inFront
+making-none bs step input n old log = record { made = record { cache = refl; logged = refl }; len = refl; log-len = refl; room = omega arith }
+
+pub making-more : {bs input : List ℕ} {step n p r : ℕ} {old mid new log mid-log : List ℕ} → Making bs step input n old mid log mid-log p → Caching bs step input old → p < length (nonzeros bs) → p < n → n ≤ length log → BabyMade bs step p input mid new r → Making bs step input n old new log (set mid-log p r) (p + 1)
+making-more {bs} {input} {step} {n} {p} {r} {old} {mid} {new} {log} {mid-log} k c h l room b =
+    let f = making bs (turnBy step) in
+    let words = tabulate p (λ q. rotationOf (f q)) in
+    record {
+      made = record {
+        cache = b .cache ∙ rw (k .made .cache) (sym (cache-more (length input) input old p f));
+        logged = rw (k .made .logged, b .turn) (inFront-more words log p (rotationOf (f p)) (length-tabulate p _) (omega arith) ∙ ap (λ (t : List ℕ). inFront t log) (sym (tabulate-more p (λ q. rotationOf (f q)))));
+      };
+      len = ap length (b .cache) ∙ length-putVector (length input) _ (length-rotated _ _ (length input)) (record { room = baby-room (caching-kept {new = mid} c (k .len)) p h }) ∙ k .len;
+      log-len = length-set mid-log p r ∙ k .log-len;
+      room = omega arith;
+    }
+
+pub making-done : {bs input : List ℕ} {step n p : ℕ} {old new log log' : List ℕ} → Making bs step input n old new log log' p → n ≤ p → BabiesMade bs step n input old new log log'
+making-done {bs} {input} {step} {n} {p} {old} {new} {log} {log'} m h = let e : p ≡ n = omega (arith, m .room) in rw e at (m .made)

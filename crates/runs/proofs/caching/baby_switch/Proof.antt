@@ -1,7 +1,7 @@
 -- `runs::caching::baby_switch` meets its contract. Assumes nothing.
 use native.Mathlib.Omega.{arith}
 use borrow.Author.Needs.{needs}
-use Rattle.runs.proofs.Babies.{baby-inside, turn-asked, baby-room, from-input, source-asked, source-some, copy-asked, from-cache}
+use Rattle.runs.proofs.Babies.{baby-inside, turn-asked, baby-room, from-input, source-asked, source-some, copy-asked, from-cache, turn-signed}
 use borrow.Author.Needs.{needs}
 use Rattle.runs.proofs.caching.baby_switch.Statement.{statement}
 use Rattle.runs.proofs.caching.baby_switch.Tie as tie
@@ -49,7 +49,7 @@ same-length : tie.Need-same-length
 same-length c = search needs
 
 returns : tie.Need-returns
-returns c = let k = c .before .before .before .before .before .before .before .before .before .before in from-input (k .pre .0) _ (k .pre .1) (c .before .before .before .before .before .turn-of .ensures) (c .before .before .before .before .if1 .taken) _ (omega arith) ? (c .before .before .rotate-slots-into .ensures)
+returns c = let k = c .before .before .before .before .before .before .before .before .before .before in from-input (k .pre .0) _ (k .pre .1) (c .before .before .before .before .before .turn-of .ensures) (c .before .before .before .before .if1 .taken) (turn-signed (k .pre .0) _ (k .pre .1) (c .before .before .before .before .before .turn-of .ensures)) (c .before .before .rotate-slots-into .ensures)
 
 place-of-requires : tie.Need-place-of-requires
 place-of-requires c κs = let k = c .before .before .before .before .before .before in source-asked (k .pre .0) _ (k .pre .1) (c .before .turn-of .ensures)
