@@ -1,3 +1,4 @@
 -- What the private steps ask and ensure.
 pub mod Plain
 pub mod Keyed
+pub mod Nodes

@@ -2,6 +2,7 @@
 // refusals are those of document 01.
 mod caching;
 pub mod keyed;
+mod nodes;
 mod turning;
 
 ghost use mathlib.Core.Path.{_≡_};
@@ -14,7 +15,7 @@ ghost use Rattle.diagonals.specs.Products.{product};
 ghost use Rattle.runs.specs.Calls.{Evaluated};
 ghost use Rattle.runs.specs.Steps.Plain.{runAdded, diagonalAdded, Run, Repeated};
 
-fn clear(out: &mut [u64])
+pub(crate) fn clear(out: &mut [u64])
     ensures { λ _. ⌜ now (out .exit) ≡ tabulate (length (now (out .entry))) (λ i. 0) ⌝ }
 {
     for i in 0..out.len() {
@@ -54,7 +55,7 @@ fn add_blocks(block: &[u64], k: usize, input: &[u64], out: &mut [u64])
 
 // Adds a diagonal, given by one period. Where four copies of the period fit the table they are laid
 // out there first, so that runs are long.
-fn add_diagonal(period: &[u64], k: usize, input: &[u64], table: &mut [u64], out: &mut [u64])
+pub(crate) fn add_diagonal(period: &[u64], k: usize, input: &[u64], table: &mut [u64], out: &mut [u64])
     requires { ⌜ Repeated (now period) k (now input) (now out) ⌝ }
     requires { ⌜ length (now table) ≤ 65536 ⌝ }
     ensures { λ _. ⌜ now (out .exit) ≡ tabulate (length (now (out .entry))) (diagonalAdded (now (period .entry)) k (now (input .entry)) (now (out .entry))) ⌝ }

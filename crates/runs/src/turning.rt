@@ -24,7 +24,7 @@ fn reverse(v: &mut [u64])
 }
 
 // By three reversals, since no second vector is lent.
-fn rotate_in_place(v: &mut [u64], k: usize)
+pub(crate) fn rotate_in_place(v: &mut [u64], k: usize)
     requires { ⌜ k < length (now v) ⌝ }
     ensures { λ _. ⌜ now (v .exit) ≡ rotated (now (v .entry)) (pos k) (length (now (v .entry))) ⌝ }
 {
