@@ -12,3 +12,4 @@ pub mod TreeSums
 pub mod TreeLevels
 pub mod TreeAnswers
 pub mod NodeTurns
+pub mod Finished
