@@ -12,4 +12,5 @@ pub mod TreeSums
 pub mod TreeLevels
 pub mod TreeAnswers
 pub mod NodeTurns
+pub mod Answers
 pub mod Finished
