@@ -14,3 +14,4 @@ pub mod TreeAnswers
 pub mod NodeTurns
 pub mod Answers
 pub mod Finished
+pub mod KeysUsed
