@@ -36,7 +36,7 @@ module _ (m slots : ℕ) (p : 0 < slots) (input : List ℕ) (st : State) where
   plan-answer (BsgsPowersOfTwo width) ks plan room reduced = tree-answer m slots width ks plan p input st room reduced
   plan-answer Direct ks plan room reduced = own-answer m slots p input (giants slots 1 ks) (giants-rise slots 1 ks) st room
 
--- and a vector
+-- and it is a vector
 pub length-answer : (m slots : ℕ) (strategy : LinearTransformationStrategy) (ks : List ℕ) → Planned slots (widthOf strategy) ks → (nodes : List ℕ) → length (planGiants slots strategy ks) * slots ≤ length nodes
     → length (answerOf m slots strategy ks nodes) ≡ slots
 unfolding answerOf nodeSum

@@ -15,7 +15,7 @@ use Rattle.ring.specs.Lists.{sumBy, join}
 use Rattle.ring.specs.Vectors.{tabulate, inFront}
 use Rattle.ring.specs.Laws.Lists.{each-tabulate, sumBy-each, sumBy-map, sumBy-mod}
 use Rattle.ring.specs.Laws.Searches.{lt-or-ge}
-use Rattle.ring.specs.Laws.Vectors.{length-inFront, inFront-new, length-tabulate, getD-tabulate, is-tabulate, tabulate-getD, map-tabulate, join-tables}
+use Rattle.ring.specs.Laws.Vectors.{length-inFront, inFront-new, getD-tabulate, is-tabulate, tabulate-getD, map-tabulate, join-tables}
 use Rattle.diagonals.specs.Maps.{Diagonal, offsetsOf, FormedMap}
 use Rattle.diagonals.specs.Products.{cell, stretch, product}
 use Rattle.linear_transformation.specs.declared.LinearTransformationStrategy.{LinearTransformationStrategy}
