@@ -17,3 +17,6 @@ pub mod Elements
 pub mod NodeRuns
 pub mod PlanWords
 pub mod PairSchedules
+pub mod Answers
+pub mod Finished
+pub mod KeysUsed
