@@ -104,7 +104,7 @@ pub place-behind : (bs : List ℕ) (k : ℕ) → bs ≡ 0 ∷ nonzeros bs → 1 
 place-behind bs k e h = ap (placeOf k) e ∙ rw (ne-eqb 0 k (λ q. omega arith))
 
 -- a baby that is not 0 is among the others
-place-within : (bs : List ℕ) (k : ℕ) → bs ≡ 0 ∷ nonzeros bs → 1 ≤ k → among k bs ≡ true → placeOf k (nonzeros bs) < length (nonzeros bs)
+pub place-within : (bs : List ℕ) (k : ℕ) → bs ≡ 0 ∷ nonzeros bs → 1 ≤ k → among k bs ≡ true → placeOf k (nonzeros bs) < length (nonzeros bs)
 place-within bs k e h a = omega (arith, place-found k bs a .within, place-behind bs k e h, ap length e)
 
 module _ {bs input cache : List ℕ} (b : Babies bs input cache) (k r : ℕ) (h : 1 ≤ k) (a : among k bs ≡ true) (e : r ≡ placeOf k bs) where

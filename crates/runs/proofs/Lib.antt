@@ -7,3 +7,5 @@ pub mod Putting
 pub mod Reversing
 pub mod TwoRuns
 pub mod Babies
+pub mod Giants
+pub mod GiantNodes

@@ -55,7 +55,13 @@ fn add_blocks(block: &[u64], k: usize, input: &[u64], out: &mut [u64])
 
 // Adds a diagonal, given by one period. Where four copies of the period fit the table they are laid
 // out there first, so that runs are long.
-pub(crate) fn add_diagonal(period: &[u64], k: usize, input: &[u64], table: &mut [u64], out: &mut [u64])
+pub(crate) fn add_diagonal(
+    period: &[u64],
+    k: usize,
+    input: &[u64],
+    table: &mut [u64],
+    out: &mut [u64],
+)
     requires { ⌜ Repeated (now period) k (now input) (now out) ⌝ }
     requires { ⌜ length (now table) ≤ 65536 ⌝ }
     ensures { λ _. ⌜ now (out .exit) ≡ tabulate (length (now (out .entry))) (diagonalAdded (now (period .entry)) k (now (input .entry)) (now (out .entry))) ⌝ }

@@ -59,7 +59,16 @@ fn make_node<'a>(
 {
     crate::clear(node);
     let end = add_diagonals(
-        babies, giant, first, n, start, pairs, values, input, cache, node,
+        babies,
+        giant,
+        first,
+        n,
+        start,
+        pairs,
+        values,
+        input,
+        cache,
+        node,
     );
     let slots = node.len();
     let back = (slots - ring::wide(giant)) % slots;

@@ -23,6 +23,7 @@ pub record GiantRun (bs : List ℕ) (g first n count : ℕ) (pairs input : List 
 
 pub record GiantAsked (bs : List ℕ) (g first n start : ℕ) (pairs values input cache : List ℕ) : Type 0 where
   pub count : ℕ
+  pub few : count ≤ 65536
   pub formed : WellFormed (length input) count pairs values
   pub babies : Babies bs input cache
   pub run : GiantRun bs g first n count pairs input
@@ -52,6 +53,7 @@ pub record NodeMade (bs : List ℕ) (g first n : ℕ) (pairs values input cache 
 -- all giants: their diagonals stand one after the other
 pub record NodesAsked (bs gs cuts pairs values input cache nodes : List ℕ) : Type 0 where
   pub count : ℕ
+  pub few : count ≤ 65536
   pub formed : WellFormed (length input) count pairs values
   pub babies : Babies bs input cache
   pub sizes : length cuts ≡ 2 * length gs

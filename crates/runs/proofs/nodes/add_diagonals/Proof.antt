@@ -1,100 +1,79 @@
+-- `runs::nodes::add_diagonals` meets its contract. Assumes nothing.
+use native.Mathlib.Omega.{arith}
+use borrow.Author.Needs.{needs}
+use mathlib.Core.Path.{sym, _∙_}
+use Prim.Native.Nat.{_-_}
+use lib.ListN.{length-replicate}
+use Prim.Native.Nat.{ℕ}
+use Rattle.runs.proofs.Giants.{Running, running-none, running-more, running-done, summing-length, within, reading, above, values-inside, asked}
 use Rattle.runs.proofs.nodes.add_diagonals.Statement.{statement}
 use Rattle.runs.proofs.nodes.add_diagonals.Tie as tie
-use Rattle.runs.proofs.nodes.add_diagonals.Reads as reads
-use Rattle.runs.proofs.nodes.add_diagonals.Lts as lts
-use Rattle.diagonals.proofs.length_at.Reads as length-at-reads
-use Rattle.diagonals.proofs.offset_at.Reads as offset-at-reads
-use Rattle.ring.proofs.wide.Reads as wide-reads
-use Rattle.runs.proofs.add_diagonal.Reads as add-diagonal-reads
-use Rattle.runs.proofs.caching.rotated_input.Reads as rotated-input-reads
 
 abbrev Inv-loop : tie.InvT-loop
-Inv-loop babies giant first n start pairs values input cache node₀ g table₀ at₀ i₀ node table at i =
-    ?
+Inv-loop babies giant first n start pairs values input cache node₀ g table₀ at₀ i₀ node table at i = Running babies giant first n pairs values input cache node table at i
 
 abbrev μ-loop : tie.MeasureT-loop
-μ-loop babies giant first n start pairs values input cache node₀ g table₀ at₀ i₀ node table at i =
-    ?
+μ-loop babies giant first n start pairs values input cache node₀ g table₀ at₀ i₀ node table at i = n - i
 
--- src/nodes.rt:26:9
 wide-requires : tie.Need-wide-requires Inv-loop μ-loop
-wide-requires c κs = ?
+wide-requires c κs = search needs
 
--- src/nodes.rt:30:5
 loop-holds : tie.Need-loop-holds Inv-loop μ-loop
-loop-holds c = ?
+loop-holds c = running-none (c .before .before .before .before .before .before .before .pre .0) (c .before .before .before .before .before .before .before .pre .1) (length-replicate {A = ℕ} 512 0)
 
--- src/nodes.rt:31:17
 add-k : tie.Need-add-k Inv-loop μ-loop
-add-k c = ?
+add-k c = omega (arith, within (c .before .before .before .before .before .before .before .before .before .pre .0) (c .before .loop .inv) (c .loop-test .taken), c .before .before .before .before .before .before .before .before .before .pre .0 .few)
 
--- src/nodes.rt:32:35
 length-at-requires : tie.Need-length-at-requires Inv-loop μ-loop
-length-at-requires c κs = ?
+length-at-requires c κs = search needs
 
--- src/nodes.rt:32:24
 wide-requires-2 : tie.Need-wide-requires-2 Inv-loop μ-loop
-wide-requires-2 c κs = ?
+wide-requires-2 c κs = search needs
 
--- src/nodes.rt:32:19
 add-end : tie.Need-add-end Inv-loop μ-loop
-add-end c = ?
+add-end c = omega (arith, values-inside (c .before .before .before .before .before .before .before .before .before .before .before .pre .0) (c .before .before .before .loop .inv) (c .before .before .loop-test .taken) (c .wide2 .ensures ∙ c .before .length-at .ensures))
 
--- src/nodes.rt:33:20
 offset-at-requires : tie.Need-offset-at-requires Inv-loop μ-loop
-offset-at-requires c κs = ?
+offset-at-requires c κs = search needs
 
--- src/nodes.rt:33:20
 sub-baby : tie.Need-sub-baby Inv-loop μ-loop
-sub-baby c = ?
+sub-baby c = above (c .before .before .before .before .before .before .before .before .before .before .before .before .pre .0) (c .before .before .before .before .loop .inv) (c .before .before .before .loop-test .taken) (c .offset-at .ensures)
 
--- src/nodes.rt:34:13
 rotated-input-requires : tie.Need-rotated-input-requires Inv-loop μ-loop
-rotated-input-requires c κs = ?
+rotated-input-requires c κs = reading (c .before .before .before .before .before .before .before .before .before .before .before .before .pre .0) (c .before .before .before .before .loop .inv) (c .before .before .before .loop-test .taken) (c .offset-at .ensures)
 
--- src/nodes.rt:35:29
 mul-add-diagonal : tie.Need-mul-add-diagonal Inv-loop μ-loop
-mul-add-diagonal c = ?
+mul-add-diagonal c = omega (arith, values-inside (c .before .before .before .before .before .before .before .before .before .before .before .before .before .pre .0) (c .before .before .before .before .before .loop .inv) (c .before .before .before .before .loop-test .taken) (c .before .before .wide2 .ensures ∙ c .before .before .before .length-at .ensures))
 
--- src/nodes.rt:35:29
 sub-add-diagonal : tie.Need-sub-add-diagonal Inv-loop μ-loop
-sub-add-diagonal c = ?
+sub-add-diagonal c = search needs
 
--- src/nodes.rt:35:29
 part-add-diagonal-start : tie.Need-part-add-diagonal-start Inv-loop μ-loop
-part-add-diagonal-start c = ?
+part-add-diagonal-start c = search needs
 
--- src/nodes.rt:35:29
 part-add-diagonal-end : tie.Need-part-add-diagonal-end Inv-loop μ-loop
-part-add-diagonal-end c = ?
+part-add-diagonal-end c = values-inside (c .before .before .before .before .before .before .before .before .before .before .before .before .before .pre .0) (c .before .before .before .before .before .loop .inv) (c .before .before .before .before .loop-test .taken) (c .before .before .wide2 .ensures ∙ c .before .before .before .length-at .ensures)
 
--- src/nodes.rt:35:58
 slice-aggregate-add-diagonal : tie.Need-slice-aggregate-add-diagonal Inv-loop μ-loop
-slice-aggregate-add-diagonal c = ?
+slice-aggregate-add-diagonal c = search needs
 
--- src/nodes.rt:35:9
 add-diagonal-requires : tie.Need-add-diagonal-requires Inv-loop μ-loop
-add-diagonal-requires c κs = ?
+add-diagonal-requires c κs = (rw (c .before .before .before .before .before .before .before .before .before .wide .ensures) (asked (c .before .before .before .before .before .before .before .before .before .before .before .before .before .before .before .before .pre .0) (c .before .before .before .before .before .before .before .before .loop .inv) (c .before .before .before .before .before .before .before .loop-test .taken) (c .before .before .before .before .before .wide2 .ensures ∙ c .before .before .before .before .before .before .length-at .ensures) (c .before .before .before .before .offset-at .ensures) (c .before .before .before .rotated-input .ensures)), omega (arith, c .before .before .before .before .before .before .before .before .loop .inv .table-len))
 
--- src/nodes.rt:37:9
 add-i : tie.Need-add-i Inv-loop μ-loop
-add-i c = ?
+add-i c = search needs
 
--- src/nodes.rt:30:5
 loop-less : tie.Need-loop-less Inv-loop μ-loop
-loop-less c = ?
+loop-less c = search needs
 
--- src/nodes.rt:30:5
 loop-again : tie.Need-loop-again Inv-loop μ-loop
-loop-again c = ?
+loop-again c = running-more (c .before .before .before .before .before .before .before .before .before .before .before .before .before .before .before .before .before .before .before .before .pre .0) (c .before .before .before .before .before .before .before .before .before .before .before .before .loop .inv) (c .before .before .before .before .before .before .before .before .before .before .before .loop-test .taken) (c .before .before .before .before .before .before .before .before .before .wide2 .ensures ∙ c .before .before .before .before .before .before .before .before .before .before .length-at .ensures) (c .before .before .before .before .before .before .before .before .offset-at .ensures) (c .before .before .before .before .before .before .before .rotated-input .ensures) (rw (c .before .before .before .before .before .before .before .before .before .before .before .before .before .wide .ensures) at (c .before .before .before .add-diagonal .ensures)) (c .before .before .before .add-diagonal .kept .1 .1 .1 .0)
 
--- src/nodes.rt:10:1
 same-length : tie.Need-same-length Inv-loop μ-loop
-same-length c = ?
+same-length c = c .before .loop .inv .len ∙ sym (summing-length (c .before .before .before .before .before .before .before .before .before .pre .1))
 
--- src/nodes.rt:10:1
 returns : tie.Need-returns Inv-loop μ-loop
-returns c = ?
+returns c = running-done (c .before .loop .inv) (c .loop-test .left)
 
 pub add-diagonals-spec : {M : Type 1} → statement M
 add-diagonals-spec =
