@@ -1,12 +1,11 @@
 -- The answers of the calls about a plan's babies, keys and switches.
 -- Assumes nothing.
-use Prim.Native.Nat.{ℕ, zero, suc, _+_, _*_, _^_, _≤_, _<_}
+use Prim.Native.Nat.{ℕ, _+_, _*_, _^_, _≤_, _<_}
 use mathlib.Core.Path.{_≡_, refl, sym, ap, ap₂, _∙_}
 use mathlib.Core.Bool.{Bool, true, false}
 use mathlib.Core.List.{List, [], _∷_, _++_, map}
 use native.Mathlib.Nat.{le-refl, suc-ne-zero, mod-eq-of-lt}
 use native.Mathlib.Omega.{arith}
-use borrow.Author.Tests.{ne-eqb}
 use lib.IntN.{ℤ, pos}
 use lib.ListN.{length, set, take, drop, length-map, length-append}
 use lib.Pow.{pow-mono}
@@ -31,7 +30,7 @@ use Rattle.linear_transformation.specs.Plans.{widthOf, babies, giants}
 use Rattle.ring.specs.Residues.{diagonalsOf}
 use Rattle.linear_transformation.specs.Closures.{closure, targets, passRotations, nonzeros, nonEmpty}
 use Rattle.linear_transformation.specs.Digits.{rotOf}
-use Rattle.linear_transformation.specs.Trees.{Pair, Level, keyed, treeOf, treeKeys, treeSwitches}
+use Rattle.linear_transformation.specs.Trees.{treeOf, treeKeys, treeSwitches}
 use Rattle.linear_transformation.specs.Listed.{listTree}
 use Rattle.linear_transformation.specs.Schedules.{babyStep, babyMultiples, planBabies, planTree, keysPerRotation, planKeys, giantSwitches, planSwitches}
 use Rattle.linear_transformation.specs.Calls.{ListWritten, planRefusals}

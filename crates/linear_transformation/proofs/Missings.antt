@@ -1,23 +1,23 @@
 -- The table of a plan's keys: what is marked, what the held list takes away, and whether a mark is left; and the numbers of
 -- a plan.
 -- Assumes nothing.
-use Prim.Native.Nat.{ℕ, zero, suc, _+_, _*_, _/_, _≤_, _<_}
+use Prim.Native.Nat.{ℕ, zero, suc, _+_, _/_, _≤_, _<_}
 use mathlib.Core.Path.{_≡_, refl, sym, ap, ap₂, _∙_}
 use mathlib.Core.Bool.{Bool, true, false, not, _&&_, _||_, true≢false, or-true, or-false, or-assoc}
 use mathlib.Core.List.{List, [], _∷_, _++_, map}
-use native.Mathlib.Nat.{suc-ne-zero, div-one, zero-lt-suc}
+use native.Mathlib.Nat.{suc-ne-zero, div-one}
 use native.Mathlib.Numerals.{add-one}
 use native.Mathlib.Decide.{ℕ-discrete}
 use native.Mathlib.Omega.{arith}
 use borrow.Author.Tests.{eq-eqb, ne-eqb, eqb-false, not-true, le-ltb}
 use lib.Dec.{eqb, ltb}
-use lib.ListN.{length, getD, set, take, drop, replicate, length-set, length-replicate, List·getD-eq-default}
+use lib.ListN.{length, getD, set, take, drop, length-set, List·getD-eq-default}
 use lib.Seq.{take-suc, take-all, take-at, getD-take, length-take-le, getD-set-same, getD-set-other}
-use Rattle.ring.specs.Lists.{some, among, Each}
+use Rattle.ring.specs.Lists.{among, Each}
 use Rattle.ring.specs.Marks.{marks, Unmarked}
 use Rattle.ring.specs.Searches.{below}
 use Rattle.ring.specs.Vectors.{inFront}
-use Rattle.ring.specs.Refusals.{firstOf, onAccept}
+use Rattle.ring.specs.Refusals.{firstOf}
 use Rattle.ring.specs.declared.Answer.{Answer}
 use Rattle.ring.specs.declared.Answer.the-variants as Got
 use Rattle.ring.specs.Laws.Answers.{no-refused, same-value}
@@ -27,9 +27,9 @@ use Rattle.ring.specs.Laws.Members.{some-append, among-head, among-some, among-
 use Rattle.linear_transformation.specs.declared.LinearTransformationStrategy.{LinearTransformationStrategy}
 use Rattle.linear_transformation.specs.declared.LinearTransformationStrategy.the-variants.{Bsgs, BsgsPowersOfTwo, Direct}
 use Rattle.linear_transformation.specs.declared.stored.NeedsAnswer.the-variants as Needed
-use Rattle.linear_transformation.specs.Plans.{giantOf, babies, giants, widthOf}
+use Rattle.linear_transformation.specs.Plans.{babies, giants, widthOf}
 use Rattle.linear_transformation.specs.Closures.{nonzeros}
-use Rattle.linear_transformation.specs.Schedules.{babyStep, planBabies, keysPerRotation, planKeys, giantSwitches, planSwitches}
+use Rattle.linear_transformation.specs.Schedules.{planBabies, keysPerRotation, planKeys, giantSwitches, planSwitches}
 use Rattle.linear_transformation.specs.Calls.{ListWritten}
 use Rattle.linear_transformation.specs.Stored.{isMissing, pairCount, stepOf, needsRefusal, planNeeds}
 use Rattle.linear_transformation.specs.Steps.Plans.{Diagonals, BabiesMarked, StepIs, RunFrom}

@@ -2,7 +2,7 @@
 -- Assumes nothing.
 use Prim.Native.Nat.{ℕ, zero, suc, _+_, _*_, _≤_, _<_, zero-le}
 use mathlib.Core.Path.{_≡_, refl, sym, ap, _∙_}
-use mathlib.Core.Bool.{Bool, true, false, not, _&&_}
+use mathlib.Core.Bool.{Bool, true, false}
 use mathlib.Core.List.{List, [], _∷_, _++_}
 use mathlib.Core.Logic.{⊎-elim}
 use native.Mathlib.Nat.{suc-ne-zero, not-suc-le-zero, eq-or-lt-of-le}
@@ -23,17 +23,17 @@ use Rattle.linear_transformation.specs.declared.rotations.TreeAnswer.{Tr
 use Rattle.linear_transformation.specs.declared.rotations.TreeAnswer.the-variants as Grown
 use Rattle.linear_transformation.specs.Strategies.{widthOutside}
 use Rattle.linear_transformation.specs.Plans.{widthOf}
-use Rattle.linear_transformation.specs.Trees.{Tree, Level, levelWords, recordWords, treeSwitches}
-use Rattle.linear_transformation.specs.Schedules.{planBabies, planWords, planTree}
+use Rattle.linear_transformation.specs.Trees.{Tree, Level, levelWords, recordWords}
+use Rattle.linear_transformation.specs.Schedules.{planBabies, planWords}
 use Rattle.linear_transformation.specs.Stored.{leastAt, offsetFits, offsetsRise, storedRefusals, planRecords, planLevels, storedPlanRefusal, StoredPlanWritten, storedTreeRoom, storedTreeAnswered, StoredTreeLeft, StoredTreeWritten}
 use Rattle.linear_transformation.specs.Steps.Plans.{WordsWritten}
 use Rattle.linear_transformation.specs.Steps.Trees.{Planted, heapLevels, heapSwitches}
-use Rattle.linear_transformation.specs.Steps.Keys.{Sizable, Accepted, giantsOf}
+use Rattle.linear_transformation.specs.Steps.Keys.{Sizable, giantsOf}
 use Rattle.linear_transformation.specs.Steps.Stored.{StoredJudged}
 use Rattle.linear_transformation.specs.Laws.Plans.{width-positive}
 use Rattle.linear_transformation.specs.Laws.Stored.{rise-distinct}
 use Rattle.linear_transformation.proofs.Writing.{allWords}
-use Rattle.linear_transformation.proofs.Growth.{Sizes, sizes}
+use Rattle.linear_transformation.proofs.Growth.{sizes}
 use Rattle.linear_transformation.proofs.PlanAnswers.{in-range}
 use Rattle.linear_transformation.proofs.KeyAnswers.{plan-tree}
 

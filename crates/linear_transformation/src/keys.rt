@@ -190,7 +190,11 @@ fn count_pairs(ds: &[u32], slots: u32, width: u32) -> usize
     tree_size(bits, &heap)
 }
 
-pub(crate) fn giant_switches(ds: &[u32], slots: u32, strategy: LinearTransformationStrategy) -> usize
+pub(crate) fn giant_switches(
+    ds: &[u32],
+    slots: u32,
+    strategy: LinearTransformationStrategy,
+) -> usize
     requires { ⌜ Accepted slots strategy (now ds) ⌝ }
     ensures { λ r. ⌜ Switches slots strategy (now (ds .entry)) r ⌝ }
 {

@@ -243,12 +243,7 @@ fn unmark(held: &[u64], seen: &mut [bool; 65536])
 }
 
 // Whether a key of the plan is not held.
-fn is_missing(
-    ds: &[u32],
-    slots: u32,
-    strategy: LinearTransformationStrategy,
-    held: &[u64],
-) -> bool
+fn is_missing(ds: &[u32], slots: u32, strategy: LinearTransformationStrategy, held: &[u64]) -> bool
     requires { ⌜ Accepted slots strategy (now ds) ⌝ }
     ensures { λ r. ⌜ r ≡ isMissing (now (held .entry)) (planKeys slots strategy (now (ds .entry))) ⌝ }
 {

@@ -1,23 +1,22 @@
 -- Laws of the plans of stored maps: what rising offsets are, how low and how few the keys are, and how many words, pairs and
 -- babies there are.
 -- Assumes nothing.
-use Prim.Native.Nat.{ℕ, zero, suc, _+_, _*_, _/_, _%_, _^_, _≤_, _<_}
-use mathlib.Core.Path.{_≡_, refl, sym, ap, _∙_}
-use mathlib.Core.Bool.{Bool, true, false, true≢false}
-use mathlib.Core.List.{List, [], _∷_, _++_, map}
+use Prim.Native.Nat.{ℕ, zero, suc, _*_, _/_, _%_, _^_, _≤_, _<_}
+use mathlib.Core.Path.{_≡_, refl, sym}
+use mathlib.Core.Bool.{true, true≢false}
+use mathlib.Core.List.{List, [], _∷_, map}
 use native.Mathlib.Nat.{suc-ne-zero, zero-div, zero-mul, le-refl, le-antisymm, mul-le-mul-right, div-add-mod'}
 use native.Mathlib.Omega.{arith}
 use borrow.Author.Tests.{leb-true, ltb-true, le-leb, lt-ltb, ne-eqb}
-use lib.Dec.{leb, ltb}
+use lib.Dec.{leb}
 use lib.IntN.{pos, _*ℤ_}
 use lib.ListN.{length, getD, length-map, length-append}
 use Rattle.ring.specs.Lists.{join, Each, Rising, among}
 use Rattle.ring.specs.Searches.{below, every}
-use Rattle.ring.specs.Vectors.{tabulate}
 use Rattle.ring.specs.Laws.Searches.{both, first, second, every-at, every-all}
 use Rattle.ring.specs.Laws.Lists.{each-then, each-at, each-append, each-map, each-tabulate, length-join}
 use Rattle.ring.specs.Laws.Below.{below-le, below-passes}
-use Rattle.ring.specs.Laws.Members.{each-among, among-each, among-head, among-rest, among-left}
+use Rattle.ring.specs.Laws.Members.{each-among, among-head, among-rest, among-left}
 use Rattle.ring.specs.Laws.Vectors.{length-tabulate}
 use Rattle.ring.specs.Laws.Residues.{residue-lt}
 use Rattle.linear_transformation.specs.declared.LinearTransformationStrategy.{LinearTransformationStrategy}
@@ -26,9 +25,9 @@ use Rattle.linear_transformation.specs.declared.digits.Rot.{Rot}
 use Rattle.linear_transformation.specs.Plans.{Distinct, babies, giants}
 use Rattle.linear_transformation.specs.Closures.{cleared, closure, targets, passRotations, nonzeros, nonEmpty}
 use Rattle.linear_transformation.specs.Digits.{Giant, bitsOf, levelDigit, levelRotation}
-use Rattle.linear_transformation.specs.Trees.{leavesOf, Pair, Level, levelsOf, Tree, treeOf, pairsAt, levelWords, recordWords, flag, keyed, treeKeys, treeSwitches}
+use Rattle.linear_transformation.specs.Trees.{leavesOf, Pair, Level, levelsOf, treeOf, pairsAt, levelWords, recordWords, flag, keyed, treeKeys, treeSwitches}
 use Rattle.linear_transformation.specs.Schedules.{babyStep, babyMultiples, planBabies, planTree, keysPerRotation, planKeys, planRots, giantDigits}
-use Rattle.linear_transformation.specs.Stored.{leastAt, offsetFits, offsetsRise, pairCount, planRecords, planLevels}
+use Rattle.linear_transformation.specs.Stored.{leastAt, offsetFits, offsetsRise, pairCount, planRecords}
 use Rattle.linear_transformation.specs.Laws.Plans.{babies-rise, babies-below, babies-zero, giants-below, giants-multiple}
 use Rattle.linear_transformation.specs.Laws.Closures.{top-low, cleared-lower, positive, closure-has, closure-least, babies-rising}
 use Rattle.linear_transformation.specs.Laws.Passes.{target-is, rotations-are}

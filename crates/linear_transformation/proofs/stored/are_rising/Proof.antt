@@ -1,7 +1,6 @@
 -- `linear_transformation::stored::are_rising` meets its contract. Assumes nothing.
 use borrow.Author.Needs.{needs}
 use Prim.Native.Nat.{_-_}
-use native.Mathlib.Omega.{arith}
 use lib.ListN.{length}
 use Rattle.linear_transformation.proofs.Storings.{Ascending, ascending-none, ascending-low, ascending-high, ascending-more, ascending-done}
 use Rattle.linear_transformation.proofs.stored.are_rising.Statement.{statement}

@@ -1,6 +1,5 @@
 -- `linear_transformation::stored::is_missing` meets its contract. Assumes nothing.
 use borrow.Author.Needs.{needs}
-use native.Mathlib.Omega.{arith}
 use Rattle.linear_transformation.proofs.Writings.{unmarked}
 use Rattle.linear_transformation.proofs.Missings.{missing-is, keys-small}
 use native.Mathlib.Nat.{le-refl}

@@ -1,7 +1,6 @@
 -- `linear_transformation::stored::mark_giants` meets its contract. Assumes nothing.
 use borrow.Author.Needs.{needs}
 use Prim.Native.Nat.{_-_}
-use native.Mathlib.Omega.{arith}
 use lib.ListN.{length}
 use Rattle.linear_transformation.proofs.Missings.{Ranging, ranging-none, ranging-more, ranging-done, giant-small}
 use Rattle.linear_transformation.proofs.stored.mark_giants.Statement.{statement}

@@ -2,7 +2,6 @@
 use borrow.Author.Needs.{needs}
 use Prim.Native.Nat.{_-_}
 use native.Mathlib.Omega.{arith}
-use lib.ListN.{length}
 use Rattle.linear_transformation.proofs.Missings.{Listing, listing-none, listed-low, listing-more, listing-done}
 use Rattle.linear_transformation.proofs.stored.mark_listed.Statement.{statement}
 use Rattle.linear_transformation.proofs.stored.mark_listed.Tie as tie

@@ -1,7 +1,6 @@
 -- `linear_transformation::stored::unmark` meets its contract. Assumes nothing.
 use borrow.Author.Needs.{needs}
 use Prim.Native.Nat.{_-_}
-use native.Mathlib.Omega.{arith}
 use lib.ListN.{length}
 use Rattle.linear_transformation.proofs.Missings.{Holding, holding-none, holding-low, holding-high, holding-done}
 use mathlib.Core.Logic.{⊎-elim}
