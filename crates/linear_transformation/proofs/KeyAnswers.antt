@@ -1,12 +1,11 @@
 -- The answers of the calls about a plan's babies, keys and switches.
 -- Assumes nothing.
-use Prim.Native.Nat.{ℕ, zero, suc, _+_, _*_, _^_, _≤_, _<_}
+use Prim.Native.Nat.{ℕ, _+_, _*_, _^_, _≤_, _<_}
 use mathlib.Core.Path.{_≡_, refl, sym, ap, ap₂, _∙_}
 use mathlib.Core.Bool.{Bool, true, false}
 use mathlib.Core.List.{List, [], _∷_, _++_, map}
 use native.Mathlib.Nat.{le-refl, suc-ne-zero, mod-eq-of-lt}
 use native.Mathlib.Omega.{arith}
-use borrow.Author.Tests.{ne-eqb}
 use lib.IntN.{ℤ, pos}
 use lib.ListN.{length, set, take, drop, length-map, length-append}
 use lib.Pow.{pow-mono}
@@ -31,7 +30,7 @@ use Rattle.linear_transformation.specs.Plans.{widthOf, babies, giants}
 use Rattle.ring.specs.Residues.{diagonalsOf}
 use Rattle.linear_transformation.specs.Closures.{closure, targets, passRotations, nonzeros, nonEmpty}
 use Rattle.linear_transformation.specs.Digits.{rotOf}
-use Rattle.linear_transformation.specs.Trees.{Pair, Level, keyed, treeOf, treeKeys, treeSwitches}
+use Rattle.linear_transformation.specs.Trees.{treeOf, treeKeys, treeSwitches}
 use Rattle.linear_transformation.specs.Listed.{listTree}
 use Rattle.linear_transformation.specs.Schedules.{babyStep, babyMultiples, planBabies, planTree, keysPerRotation, planKeys, giantSwitches, planSwitches}
 use Rattle.linear_transformation.specs.Calls.{ListWritten, planRefusals}
@@ -42,6 +41,7 @@ use Rattle.linear_transformation.specs.Steps.Keys.{PlanJudged, Sizable, 
 use Rattle.linear_transformation.specs.Laws.Plans.{planned, width-positive, giants-below}
 use Rattle.linear_transformation.specs.Laws.Runs.{giants-bound, giants-few}
 use Rattle.linear_transformation.specs.Laws.Passes.{rotations-are}
+use Rattle.linear_transformation.specs.Laws.Stored.{nonzeros-few, keyed-few}
 use Rattle.linear_transformation.specs.Laws.Turns.{nonzeros-below, nonzeros-times}
 use Rattle.linear_transformation.proofs.Writings.{writing-then, writing-done}
 use Rattle.linear_transformation.proofs.BabyLists.{list-later-by, list-refused-by, list-short, list-written}
@@ -129,7 +129,7 @@ module _ {slots width : ℕ} {ds : List ℕ} (z : Sizable slots width ds) where
   same-giants : giants 65536 width ds ≡ giants slots width ds
   same-giants = giants-bound (z .planned) 65536 (z .slots-in .high)
 
-  plan-tree : listTree slots width (giantsOf width ds) ≡ planTree slots width ds
+  pub plan-tree : listTree slots width (giantsOf width ds) ≡ planTree slots width ds
   unfolding planTree
   plan-tree = ap (treeOf slots width) (ap (λ (gs : List ℕ). map (rotOf slots) (map pos gs)) same-giants ∙ rotations-same slots (giants slots width ds) (z .slots-in .low) (giants-below slots width ds))
 
@@ -142,11 +142,6 @@ module _ {slots width : ℕ} {ds : List ℕ} (z : Sizable slots width ds) where
       }
 
 -- ---- giants
-
-nonzeros-few : (xs : List ℕ) → length (nonzeros xs) ≤ length xs
-nonzeros-few [] = le-refl 0
-nonzeros-few (zero ∷ xs) = omega (arith, nonzeros-few xs)
-nonzeros-few (suc x ∷ xs) = rw (ne-eqb (suc x) 0 (suc-ne-zero x)) (omega (arith, nonzeros-few xs))
 
 module _ {slots width : ℕ} {ds : List ℕ} (z : Sizable slots width ds) {n : ℕ} (c : n ≡ length (nonzeros (giants 65536 width ds))) where
   turns-are : n ≡ length (nonzeros (giants slots width ds))
@@ -193,14 +188,6 @@ module _ {slots width : ℕ} {ds : List ℕ} (z : Sizable slots width ds) {seen 
           own-written = list-written own old own-length l (writing-done (writing-then u v) ∙ rw (turning-babies t, same-giants z))
 
 -- with powers of two
-keyed-one : (rot : Rot) (ps : List Pair) → length (keyed rot ps) ≤ 1
-keyed-one rot [] = omega arith
-keyed-one rot (p ∷ ps) = le-refl 1
-
-keys-few : (ls : List Level) → length (keysOf ls) ≤ length ls
-keys-few [] = le-refl 0
-keys-few (l ∷ ls) = omega (arith, length-append (keyed (l .rotation) (l .pairs)) (keysOf ls), keyed-one (l .rotation) (l .pairs), keys-few ls)
-
 levels-length : (slots step b : ℕ) (heap : List Bool) (n : ℕ) → length (heapLevels slots step b heap n) ≡ n
 unfolding heapLevels
 levels-length slots step b heap n = length-tabulate n (heapLevel slots step b heap)
@@ -226,7 +213,7 @@ module _ {slots width : ℕ} {ds : List ℕ} (z : Sizable slots width ds) {seen 
   power-length = sym (ap length (sym power-keys-are) ∙ length-append turns steps ∙ rw (turns-length, d))
 
   pub power-small : passes + levels ≤ 32
-  power-small = omega (arith, c, below-le (λ i. nonEmpty (targets (below (marks seen) n) i)) 16, d, keys-few (heapLevels slots width bits heap bits), levels-length slots width bits heap bits, p .small)
+  power-small = omega (arith, c, below-le (λ i. nonEmpty (targets (below (marks seen) n) i)) 16, d, keyed-few (heapLevels slots width bits heap bits), levels-length slots width bits heap bits, p .small)
 
   module _ (old : List ℕ) where
     pub power-short : length old < passes + levels → ListWritten [] (planKeys slots (BsgsPowersOfTwo width) ds) old old (Refused 12)

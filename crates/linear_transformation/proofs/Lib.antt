@@ -16,3 +16,5 @@ pub mod Planting
 pub mod Growth
 pub mod Keyings
 pub mod KeyAnswers
+pub mod Storings
+pub mod Missings

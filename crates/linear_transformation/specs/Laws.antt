@@ -10,6 +10,7 @@ pub mod Counts
 pub mod Gaps
 pub mod Switches
 pub mod Calls
+pub mod Stored
 pub mod Tables
 pub mod Runs
 pub mod CommonDivisors

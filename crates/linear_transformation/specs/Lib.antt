@@ -8,5 +8,6 @@ pub mod Schedules
 pub mod Listed
 pub mod Widths
 pub mod Calls
+pub mod Stored
 pub mod Steps
 pub mod Laws

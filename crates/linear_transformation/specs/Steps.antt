@@ -5,3 +5,4 @@ pub mod Plans
 pub mod Keys
 pub mod Trees
 pub mod Widths
+pub mod Stored

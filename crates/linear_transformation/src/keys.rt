@@ -118,7 +118,7 @@ fn mark_turns(bits: u32, ds: &[u32], slots: u32, width: u32, heap: &mut [bool; 1
 }
 
 // Marks the nodes of the tree over the plan's giants, and gives b.
-fn plant_plan(ds: &[u32], slots: u32, width: u32, heap: &mut [bool; 131072]) -> u32
+pub(crate) fn plant_plan(ds: &[u32], slots: u32, width: u32, heap: &mut [bool; 131072]) -> u32
     requires { ⌜ Sizable slots width (now ds) ⌝ }
     requires { ⌜ Blank (now heap) ⌝ }
     ensures { λ r. ⌜ Planted slots width (giantsOf width (now (ds .entry))) (now (heap .exit)) r ⌝ }
@@ -190,7 +190,11 @@ fn count_pairs(ds: &[u32], slots: u32, width: u32) -> usize
     tree_size(bits, &heap)
 }
 
-fn giant_switches(ds: &[u32], slots: u32, strategy: LinearTransformationStrategy) -> usize
+pub(crate) fn giant_switches(
+    ds: &[u32],
+    slots: u32,
+    strategy: LinearTransformationStrategy,
+) -> usize
     requires { ⌜ Accepted slots strategy (now ds) ⌝ }
     ensures { λ r. ⌜ Switches slots strategy (now (ds .entry)) r ⌝ }
 {
@@ -204,7 +208,7 @@ fn giant_switches(ds: &[u32], slots: u32, strategy: LinearTransformationStrategy
 }
 
 // How many babies are not 0.
-fn baby_switches(ds: &[u32], slots: u32, strategy: LinearTransformationStrategy) -> usize
+pub(crate) fn baby_switches(ds: &[u32], slots: u32, strategy: LinearTransformationStrategy) -> usize
     requires { ⌜ Accepted slots strategy (now ds) ⌝ }
     ensures { λ r. ⌜ BabySwitches slots strategy (now (ds .entry)) r ⌝ }
 {
@@ -260,7 +264,7 @@ fn own_keys(ds: &[u32], slots: u32, width: u32, out: &mut [u32]) -> ring::Answer
 }
 
 // The keys with powers of two: the rotations of the passes, then those of the levels that have pairs.
-fn power_keys(ds: &[u32], slots: u32, width: u32, out: &mut [u32]) -> ring::Answer
+pub(crate) fn power_keys(ds: &[u32], slots: u32, width: u32, out: &mut [u32]) -> ring::Answer
     requires { ⌜ Sizable slots width (now ds) ⌝ }
     ensures { λ r. ⌜ ListWritten [] (planKeys slots (BsgsPowersOfTwo width) (now (ds .entry))) (now (out .entry)) (now (out .exit)) r ⌝ }
 {

@@ -10,6 +10,7 @@ mod marks;
 mod plan;
 mod rotations;
 mod sorting;
+mod stored;
 mod widths;
 
 pub use babies::baby_closure;
@@ -33,6 +34,10 @@ pub use plan::linear_transformation_plan;
 pub use rotations::BsgsRotations;
 pub use rotations::PassesAnswer;
 pub use rotations::TreeAnswer;
+pub use stored::NeedsAnswer;
+pub use stored::plan_needs;
+pub use stored::stored_plan;
+pub use stored::stored_tree;
 pub use widths::optimal_bsgs_giant_step;
 ghost use mathlib.Core.Path.{_≡_};
 ghost use Prim.Native.Nat.{max};

@@ -2,42 +2,23 @@
 -- Assumes nothing.
 use Prim.Native.Nat.{ℕ, zero, suc, _+_, _*_, _-_, min}
 use mathlib.Core.Path.{_≡_}
-use mathlib.Core.Bool.{Bool, true, false, not}
+use mathlib.Core.Bool.{Bool, not}
 use mathlib.Core.List.{List, [], _∷_, _++_}
 use lib.Dec.{eqb, leb, ltb}
 use lib.ListN.{length}
 use Rattle.ring.specs.Slots.{modulus}
-use Rattle.ring.specs.Lists.{some, among}
 use Rattle.ring.specs.Vectors.{inFront}
 use Rattle.ring.specs.Refusals.{firstOf, onAccept}
 use Rattle.diagonals.specs.Maps.{Diagonal, offsetsOf, view}
 use Rattle.diagonals.specs.Calls.{mapRefusals}
 use Rattle.linear_transformation.specs.declared.LinearTransformationStrategy.{LinearTransformationStrategy}
-use Rattle.linear_transformation.specs.declared.LinearTransformationStrategy.the-variants.{Bsgs, BsgsPowersOfTwo, Direct}
 use Rattle.linear_transformation.specs.Strategies.{widthOutside}
-use Rattle.linear_transformation.specs.Trees.{flag, recordWords, treeSwitches}
-use Rattle.linear_transformation.specs.Schedules.{planTree}
+use Rattle.linear_transformation.specs.Trees.{flag}
+use Rattle.linear_transformation.specs.Stored.{isMissing, pairCount, planRecords}
 use Rattle.runs.specs.declared.keyed.KeyedAnswer.{KeyedAnswer}
 use Rattle.runs.specs.declared.keyed.KeyedAnswer.the-variants.{Refused, Is}
 use Rattle.runs.specs.Plans.{mapBabies, mapGiants, mapPlan, mapKeys, mapSwitches}
 use Rattle.runs.specs.Machines.{State, machine}
-
--- ---- keys and pairs of a map's plan
-
--- a rotation of the list isn't on the held list
-unfoldable pub isMissing : List ℕ → List ℕ → Bool
-isMissing held keys = some (λ k. not (among k held)) keys
-
--- the pairs of the tree, per rotation none; and their words, two each
-unfoldable pub pairCount : ℕ → LinearTransformationStrategy → List ℕ → ℕ
-pairCount slots (Bsgs width) ks = 0
-pairCount slots (BsgsPowersOfTwo width) ks = treeSwitches (planTree slots width ks)
-pairCount slots Direct ks = 0
-
-unfoldable pub planRecords : ℕ → LinearTransformationStrategy → List ℕ → List ℕ
-planRecords slots (Bsgs width) ks = []
-planRecords slots (BsgsPowersOfTwo width) ks = recordWords (planTree slots width ks .levels)
-planRecords slots Direct ks = []
 
 -- ---- refusals
 

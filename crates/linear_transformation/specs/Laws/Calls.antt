@@ -20,6 +20,7 @@ use Rattle.linear_transformation.specs.Digits.{rotOf, digit, Giant}
 use Rattle.linear_transformation.specs.Listed.{noBaby, babyMultiple}
 use Rattle.linear_transformation.specs.Calls.{babyRefusal, digitRefusal, digitNumbers, digitAnswered, planNumbers, planAnswered, passNumbers, passAnswered, treeNumbers, treeAnswered}
 use Rattle.linear_transformation.specs.Trees.{Tree, treeSwitches}
+use Rattle.linear_transformation.specs.Stored.{needsNumbers, needsAnswered}
 use mathlib.Core.List.{[], _∷_}
 use Rattle.linear_transformation.specs.Laws.Digits.{digit-turns}
 use Rattle.linear_transformation.specs.Laws.Bits.{digit-small}
@@ -47,6 +48,11 @@ tree-numbers-answered (suc e) t = refl
 -- per rotation there is no tree: no refusal, and zeros
 pub tree-numbers-none : treeNumbers NoTree ≡ 0 ∷ 0 ∷ 0 ∷ []
 tree-numbers-none = refl
+
+-- the refusal, the numbers of babies, giants, pairs and switches, and the step that an answer was made of
+pub needs-numbers-answered : (e b g p s t : ℕ) → needsNumbers (needsAnswered e b g p s t) ≡ e ∷ onAccept e b 0 ∷ onAccept e g 0 ∷ onAccept e p 0 ∷ onAccept e s 0 ∷ onAccept e t 0 ∷ []
+needs-numbers-answered zero b g p s t = refl
+needs-numbers-answered (suc e) b g p s t = refl
 
 -- where nothing is refused, the first condition does not hold, and nothing after it refuses
 none : (b : Bool) (n x : ℕ) → pick b (suc n) x ≡ 0 → (b ≡ false) × (x ≡ 0)
