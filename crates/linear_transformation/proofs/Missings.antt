@@ -292,7 +292,7 @@ module _ {s : LinearTransformationStrategy} {n : ℕ} where
   pairs-direct e = rw e (record { are = λ slots ks h. refl })
 
 module _ (ds : List ℕ) {s : LinearTransformationStrategy} where
-  pub step-width : {w : ℕ} → s ≡ Bsgs w → 1 ≡ stepOf 65536 s ds
+  pub step-width : {w : ℕ} → s ≡ Bsgs w → 0 ≡ stepOf 65536 s ds
   unfolding stepOf
   step-width e = rw e
 
@@ -300,7 +300,7 @@ module _ (ds : List ℕ) {s : LinearTransformationStrategy} where
   unfolding stepOf
   step-powers e i = rw e (i .is)
 
-  pub step-direct : s ≡ Direct → 1 ≡ stepOf 65536 s ds
+  pub step-direct : s ≡ Direct → 0 ≡ stepOf 65536 s ds
   unfolding stepOf
   step-direct e = rw e
 

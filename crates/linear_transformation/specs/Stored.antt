@@ -64,11 +64,11 @@ planLevels slots (Bsgs width) ks = []
 planLevels slots (BsgsPowersOfTwo width) ks = levelWords (planTree slots width ks .levels)
 planLevels slots Direct ks = []
 
--- the baby step with powers of two, else 1
+-- the baby step with powers of two; 0 where there is none, each rotation having its own key
 unfoldable pub stepOf : ℕ → LinearTransformationStrategy → List ℕ → ℕ
-stepOf slots (Bsgs width) ks = 1
+stepOf slots (Bsgs width) ks = 0
 stepOf slots (BsgsPowersOfTwo width) ks = babyStep slots width ks
-stepOf slots Direct ks = 1
+stepOf slots Direct ks = 0
 
 -- ---- `plan_needs`
 

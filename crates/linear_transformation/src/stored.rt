@@ -28,7 +28,7 @@ use crate::plan::run_from;
 use crate::plan::width_of;
 use crate::rotations::TreeAnswer;
 
-// The numbers of babies, giants, pairs and switches, and the baby step (1 per rotation).
+// The numbers of babies, giants, pairs and switches, and the baby step (0 per rotation).
 pub enum NeedsAnswer {
     Refused(u32),
     Is {
@@ -264,17 +264,17 @@ fn pairs_of(strategy: LinearTransformationStrategy, turns: usize) -> usize
     }
 }
 
-// The baby step with powers of two, else 1.
+// The baby step with powers of two, else 0.
 fn step_of(ds: &[u32], strategy: LinearTransformationStrategy) -> u32
     requires { ⌜ Accepted 65536 strategy (now ds) ⌝ }
     ensures { λ r. ⌜ r ≡ stepOf 65536 strategy (now (ds .entry)) ⌝ }
 {
     match strategy {
-        LinearTransformationStrategy::Bsgs { giant_step: _ } => 1,
+        LinearTransformationStrategy::Bsgs { giant_step: _ } => 0,
         LinearTransformationStrategy::BsgsPowersOfTwo { giant_step: g } => {
             baby_step_of(ds, g as u32)
         }
-        LinearTransformationStrategy::Direct => 1,
+        LinearTransformationStrategy::Direct => 0,
     }
 }
 

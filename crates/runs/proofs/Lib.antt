@@ -7,5 +7,7 @@ pub mod Putting
 pub mod Reversing
 pub mod TwoRuns
 pub mod Babies
-pub mod Giants
+pub mod GiantSums
 pub mod GiantNodes
+pub mod Joining
+pub mod Pairing

@@ -2,3 +2,4 @@
 pub mod Plain
 pub mod Keyed
 pub mod Nodes
+pub mod Giants

@@ -23,7 +23,7 @@ use Rattle.linear_transformation.specs.Trees.{Pair, Level, keyed, treeKeys}
 use Rattle.linear_transformation.specs.Schedules.{babyStep, babyMultiples, planBabies, planTree, keysPerRotation, planKeys}
 use Rattle.linear_transformation.specs.Laws.Runs.{some-member}
 use Rattle.runs.specs.Switches.{placeOf, fromInput, Switch, baby, giant, rotationOf, ownBabies, moved, passBabies, planPasses, babySchedule, ownGiants, joined, levelSwitches, giantSchedule, schedule}
-use Rattle.runs.specs.Keyed.{isMissing}
+use Rattle.linear_transformation.specs.Stored.{isMissing}
 
 -- ---- each element of two lists
 

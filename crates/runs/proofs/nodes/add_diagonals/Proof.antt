@@ -5,7 +5,7 @@ use mathlib.Core.Path.{sym, _∙_}
 use Prim.Native.Nat.{_-_}
 use lib.ListN.{length-replicate}
 use Prim.Native.Nat.{ℕ}
-use Rattle.runs.proofs.Giants.{Running, running-none, running-more, running-done, summing-length, within, reading, above, values-inside, asked}
+use Rattle.runs.proofs.GiantSums.{Running, running-none, running-more, running-done, summing-length, within, reading, above, values-inside, asked}
 use Rattle.runs.proofs.nodes.add_diagonals.Statement.{statement}
 use Rattle.runs.proofs.nodes.add_diagonals.Tie as tie
 

@@ -5,7 +5,7 @@ use Prim.Native.Nat.{ℕ}
 use native.Mathlib.Nat.{mod-lt}
 use mathlib.Core.Path.{ap, _∙_}
 use Rattle.ring.specs.Vectors.{tabulate}
-use Rattle.runs.proofs.Giants.{mid-some, turned-back}
+use Rattle.runs.proofs.GiantSums.{mid-some, turned-back}
 use borrow.Author.Needs.{needs}
 use Rattle.runs.proofs.nodes.make_node.Statement.{statement}
 use Rattle.runs.proofs.nodes.make_node.Tie as tie
