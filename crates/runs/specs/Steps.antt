@@ -3,3 +3,4 @@ pub mod Plain
 pub mod Keyed
 pub mod Nodes
 pub mod Giants
+pub mod Runs
