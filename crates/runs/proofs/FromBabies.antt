@@ -20,7 +20,7 @@ use Rattle.linear_transformation.specs.Closures.{closure, nonzeros}
 use Rattle.linear_transformation.specs.Schedules.{babyStep, babyMultiples, planBabies}
 use Rattle.linear_transformation.specs.Stored.{stepOf}
 use Rattle.linear_transformation.specs.Laws.Turns.{nonzeros-times}
-use Rattle.runs.specs.Switches.{baby, rotationOf, babySchedule}
+use Rattle.runs.specs.Switches.{rotationOf, babySchedule}
 use Rattle.runs.specs.Laws.Caches.{plan-turns, cache-room}
 use Rattle.runs.specs.Laws.PassSchedules.{topTurn, making, turnOf, baby-schedule, nonzeros-positive, nonzeros-each}
 use Rattle.runs.specs.Laws.Schedules.{step-positive, plan-babies-rise, plan-babies-front, plan-babies-low}
