@@ -2,17 +2,17 @@
 -- Assumes nothing.
 use Prim.Native.Nat.{ℕ, zero, suc, _+_, _-_, _*_, _≤_, _<_}
 use mathlib.Core.Path.{_≡_, refl, sym, ap, _∙_}
-use mathlib.Core.Bool.{true, false}
+use mathlib.Core.Bool.{false}
 use mathlib.Core.List.{List, [], _∷_}
 use native.Mathlib.Omega.{arith}
 use lib.ListN.{length, getD}
 use Rattle.ring.specs.Slots.{modulus}
-use Rattle.ring.specs.Lists.{join, among}
+use Rattle.ring.specs.Lists.{join}
 use Rattle.ring.specs.Refusals.{Range}
 use Rattle.ring.specs.Vectors.{tabulate, inFront}
 use Rattle.ring.specs.Laws.Lists.{each-at}
 use Rattle.ring.specs.Laws.Vectors.{tabulate-getD, tabulate-cong}
-use Rattle.diagonals.specs.Maps.{offsetsOf, offsetAt, view, WellFormed}
+use Rattle.diagonals.specs.Maps.{offsetsOf, view, WellFormed}
 use Rattle.diagonals.specs.Laws.Maps.{count-low}
 use Rattle.linear_transformation.specs.declared.LinearTransformationStrategy.{LinearTransformationStrategy}
 use Rattle.linear_transformation.specs.Strategies.{widthOutside}
@@ -21,8 +21,8 @@ use Rattle.linear_transformation.specs.Schedules.{planBabies, planGiants}
 use Rattle.linear_transformation.specs.Laws.Plans.{width-positive, giants-below}
 use Rattle.linear_transformation.specs.Laws.Runs.{pairs-words-length}
 use Rattle.runs.specs.Machines.{nodeAt, nodeWords}
-use Rattle.runs.specs.Laws.NodeRuns.{first-none, first-more, cut-first, cut-size, run-inside, run-above, run-among, node-run}
-use Rattle.runs.specs.Steps.Keyed.{firstOf, sizeOf, nodeRun}
+use Rattle.runs.specs.Laws.NodeRuns.{first-more, cut-first, cut-size, run-inside, run-above, run-among, node-run}
+use Rattle.runs.specs.Steps.Keyed.{firstOf, sizeOf}
 use Rattle.runs.specs.Steps.Nodes.{GiantRun, NodesAsked, NodesMade, nodeSlot, firstNodes}
 use Rattle.runs.proofs.FromBabies.{babies-of}
 
@@ -106,8 +106,8 @@ module _
         let made : ℕ → List ℕ = λ p. tabulate (length input) (nodeSlot babies giants words pairs values input cache p) in
         join-places (length giants) made at (λ p. p) (λ p. getD giants p 0)
         (λ p l.
-            ap (λ (n : ℕ). tabulate n (nodeSlot babies giants words pairs values input cache p)) len
-            ∙ tabulate-cong slots (nodeSlot babies giants words pairs values input cache p) (nodeAt modulus slots strategy (view count pairs values) input cache (getD giants p 0)) (λ s h. slot-is cache p l s))
+        ap (λ (n : ℕ). tabulate n (nodeSlot babies giants words pairs values input cache p)) len
+        ∙ tabulate-cong slots (nodeSlot babies giants words pairs values input cache p) (nodeAt modulus slots strategy (view count pairs values) input cache (getD giants p 0)) (λ s h. slot-is cache p l s))
         ∙ sym (ap (join at) (tabulate-getD giants 0))
 
     module _ {bs gs cuts : List ℕ} (b : bs ≡ planBabies slots strategy (offsetsOf (view count pairs values))) (g : gs ≡ planGiants slots strategy (offsetsOf (view count pairs values))) (c : cuts ≡ join (λ c. c .0 ∷ c .1 ∷ []) (planPairs slots (widthOf strategy) (offsetsOf (view count pairs values)))) (cache : List ℕ) where
