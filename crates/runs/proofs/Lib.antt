@@ -12,3 +12,5 @@ pub mod GiantNodes
 pub mod Joining
 pub mod Pairing
 pub mod NodeAnswers
+pub mod FromBabies
+pub mod FromNodes
