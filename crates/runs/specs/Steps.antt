@@ -4,3 +4,4 @@ pub mod Keyed
 pub mod Nodes
 pub mod Giants
 pub mod Runs
+pub mod Surveys

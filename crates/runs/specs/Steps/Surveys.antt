@@ -1,0 +1,109 @@
+-- What the keyed run's survey, its test of room and its writing of the plan ask and ensure.
+-- Assumes nothing.
+use Prim.Native.Nat.{ℕ, zero, suc, _+_, _-_, _*_, _≤_}
+use mathlib.Core.Path.{_≡_}
+use mathlib.Core.Bool.{Bool, false, not}
+use mathlib.Core.List.{List, [], _∷_, _++_}
+use lib.Dec.{eqb, ltb}
+use lib.ListN.{length}
+use Rattle.ring.specs.Vectors.{inFront}
+use Rattle.ring.specs.Refusals.{firstOf, Range}
+use Rattle.diagonals.specs.Maps.{offsetsOf, view, WellFormed}
+use Rattle.diagonals.specs.Calls.{mapRefusals}
+use Rattle.linear_transformation.specs.declared.LinearTransformationStrategy.{LinearTransformationStrategy}
+use Rattle.linear_transformation.specs.declared.LinearTransformationStrategy.the-variants.{Bsgs, BsgsPowersOfTwo, Direct}
+use Rattle.linear_transformation.specs.Strategies.{widthOutside}
+use Rattle.linear_transformation.specs.Plans.{Distinct}
+use Rattle.linear_transformation.specs.Schedules.{planBabies, planGiants, planWords, planTree, planKeys, planSwitches}
+use Rattle.linear_transformation.specs.Stored.{isMissing, pairCount, planRecords, planLevels, stepOf}
+use Rattle.runs.specs.declared.keyed.Survey.{Survey}
+
+-- ---- the survey
+
+-- the refusals before the room is known
+abbrev pub surveyRefusal : ℕ → ℕ → List ℕ → List ℕ → List ℕ → LinearTransformationStrategy → List ℕ → ℕ
+surveyRefusal slots count pairs values input strategy held =
+    firstOf
+    (mapRefusals slots count pairs values
+    ++ (widthOutside strategy, 3)
+    ∷ (not (eqb (length input) slots), 7)
+    ∷ (isMissing held (planKeys slots strategy (offsetsOf (view count pairs values))), 11)
+    ∷ [])
+
+abbrev pub noSurvey : ℕ → Survey
+noSurvey e = record { refusal = e; diagonals = 0; babies = 0; giants = 0; pairs = 0; switches = 0; step = 0 }
+
+-- what a run by the plan of ks takes
+unfoldable pub takes : ℕ → LinearTransformationStrategy → List ℕ → ℕ → Survey
+takes slots strategy ks count =
+    record {
+      refusal = 0;
+      diagonals = count;
+      babies = length (planBabies slots strategy ks);
+      giants = length (planGiants slots strategy ks);
+      pairs = pairCount slots strategy ks;
+      switches = planSwitches slots strategy ks;
+      step = stepOf slots strategy ks;
+    }
+
+abbrev pub surveyed : ℕ → ℕ → LinearTransformationStrategy → List ℕ → ℕ → Survey
+surveyed zero slots strategy ks count = takes slots strategy ks count
+surveyed (suc e) slots strategy ks count = noSurvey (suc e)
+
+-- what no refusal tells
+pub record Taken (slots count : ℕ) (pairs values input : List ℕ) (strategy : LinearTransformationStrategy) : Type 0 where
+  pub range : Range slots
+  pub formed : WellFormed slots count pairs values
+  pub width : widthOutside strategy ≡ false
+  pub whole : length input ≡ slots
+
+pub record Surveyed (slots count : ℕ) (pairs values input : List ℕ) (strategy : LinearTransformationStrategy) (held old new : List ℕ) (r : Survey) : Type 0 where
+  pub answer : r ≡ surveyed (surveyRefusal slots count pairs values input strategy held) slots strategy (offsetsOf (view count pairs values)) count
+  pub is : r .refusal ≡ surveyRefusal slots count pairs values input strategy held
+  pub taken : r .refusal ≡ 0 → Taken slots count pairs values input strategy
+  pub listed : r .refusal ≡ 0 → new ≡ inFront (offsetsOf (view count pairs values)) old
+  pub len : length new ≡ length old
+
+-- ---- room
+
+-- numbers whose sums and products are small
+pub record Sized (r : Survey) (slots : ℕ) : Type 0 where
+  pub slots-low : slots ≤ 65536
+  pub some : 1 ≤ r .babies
+  pub babies-low : r .babies ≤ 65536
+  pub giants-low : r .giants ≤ 65536
+  pub diagonals-low : r .diagonals ≤ 65536
+  pub pairs-low : r .pairs ≤ 1048576
+  pub switches-low : r .switches ≤ 2097152
+
+abbrev pub surveyRoom : Survey → ℕ → ℕ → ℕ → ℕ → ℕ → ℕ → ℕ → List (Bool × ℕ)
+surveyRoom r slots plan records cache nodes log out =
+    (ltb plan (r .babies + 3 * r .giants + r .diagonals), 12)
+    ∷ (ltb records (2 * r .pairs), 12)
+    ∷ (ltb cache ((r .babies - 1) * slots), 12)
+    ∷ (ltb nodes (r .giants * slots), 12)
+    ∷ (ltb log (r .switches), 12)
+    ∷ (ltb out slots, 12)
+    ∷ []
+
+-- ---- plan, records and levels
+
+pub record PlanAsked (slots : ℕ) (strategy : LinearTransformationStrategy) (ks plan records levels : List ℕ) : Type 0 where
+  pub range : Range slots
+  pub width : widthOutside strategy ≡ false
+  pub distinct : Distinct slots ks
+  pub plan-room : length (planWords slots strategy ks) ≤ length plan
+  pub records-room : length (planRecords slots strategy ks) ≤ length records
+  pub levels-room : length levels ≡ 32
+
+-- b of the plan's tree; 0 per rotation
+abbrev pub bitsBy : ℕ → LinearTransformationStrategy → List ℕ → ℕ
+bitsBy slots (Bsgs width) ks = 0
+bitsBy slots (BsgsPowersOfTwo width) ks = planTree slots width ks .bits
+bitsBy slots Direct ks = 0
+
+pub record PlanLeft (slots : ℕ) (strategy : LinearTransformationStrategy) (ks plan plan' records records' levels levels' : List ℕ) (r : ℕ) : Type 0 where
+  pub plan-is : plan' ≡ inFront (planWords slots strategy ks) plan
+  pub records-are : records' ≡ inFront (planRecords slots strategy ks) records
+  pub levels-are : levels' ≡ inFront (planLevels slots strategy ks) levels
+  pub bits-are : r ≡ bitsBy slots strategy ks
