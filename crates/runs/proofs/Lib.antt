@@ -11,3 +11,4 @@ pub mod GiantSums
 pub mod GiantNodes
 pub mod Joining
 pub mod Pairing
+pub mod FromGiants
