@@ -12,3 +12,4 @@ pub mod GiantNodes
 pub mod Joining
 pub mod Pairing
 pub mod FromGiants
+pub mod FromPairs
