@@ -5,7 +5,7 @@ use Prim.Native.Nat.{ℕ, zero, suc, _+_, _-_, _*_, _/_, _%_, _^_, _≤_, _<_}
 use mathlib.Core.Path.{_≡_, refl, sym, ap, _∙_}
 use mathlib.Core.Bool.{Bool, true, false, not}
 use mathlib.Core.List.{List, [], _∷_, _++_, map}
-use native.Mathlib.Nat.{not-suc-le-zero, div-mul-le-self, pow-le-pow-right}
+use native.Mathlib.Nat.{not-suc-le-zero, zero-mul, div-mul-le-self, pow-le-pow-right}
 use native.Mathlib.Decide.{decLt}
 use native.Mathlib.Omega.{arith}
 use borrow.Author.Tests.{lt-ltb, le-ltb, eqb-true}
@@ -140,3 +140,57 @@ module _ (slots width : ℕ) (ks : List ℕ) where
       let u : getD (t .leaves) place 0 / 2 ^ i * 2 ^ i ≡ n * 2 ^ i = ap (λ (x : ℕ). x * 2 ^ i) (f .under) in
       let b : 2 ^ t .bits ≤ 2 ^ 16 = pow-le-pow-right (omega arith) (tree-bits-low slots width ks (p .positive) k) in
       omega (arith, u, div-mul-le-self (getD (t .leaves) place 0) (2 ^ i), leaf-low slots width ks place (omega (arith, f .inside, length-leaves slots width ks)), b)
+
+-- the top node of some leaves is the first vector
+by-top : (slots b : ℕ) (ls buffer : List ℕ) → 0 < length ls → getD ls 0 0 < 2 ^ b → Rising ls → topNode slots b ls buffer ≡ take slots buffer
+unfolding vectorAt
+by-top slots b [] buffer h l r = absurd (not-suc-le-zero h)
+by-top slots b (x ∷ xs) buffer h l r = rw (top-place x xs b l r, zero-mul slots)
+
+-- ---- a plan with powers of two
+
+module _ (slots : ℕ) (strategy : LinearTransformationStrategy) (ks : List ℕ) (s : 1 ≤ stepOf slots strategy ks) where
+  powers-by : (g : LinearTransformationStrategy) → 1 ≤ stepOf slots g ks → g ≡ BsgsPowersOfTwo (widthOf g)
+  unfolding stepOf
+  powers-by (Bsgs width) h = absurd (not-suc-le-zero h)
+  powers-by (BsgsPowersOfTwo width) h = refl
+  powers-by Direct h = absurd (not-suc-le-zero h)
+
+  -- a step is one of powers of two
+  pub powers : strategy ≡ BsgsPowersOfTwo (widthOf strategy)
+  powers = powers-by strategy s
+
+  pub levels-are : planLevels slots strategy ks ≡ levelWords (planTree slots (widthOf strategy) ks .levels)
+  unfolding planLevels
+  levels-are = ap (λ (g : LinearTransformationStrategy). planLevels slots g ks) powers
+
+  pub records-are : planRecords slots strategy ks ≡ recordWords (planTree slots (widthOf strategy) ks .levels)
+  unfolding planRecords
+  records-are = ap (λ (g : LinearTransformationStrategy). planRecords slots g ks) powers
+
+  pub schedule-is : giantSchedule slots strategy ks ≡ treeSchedule (planTree slots (widthOf strategy) ks)
+  unfolding giantSchedule
+  schedule-is = ap (λ (g : LinearTransformationStrategy). giantSchedule slots g ks) powers
+
+  answer-is : (m : ℕ) (buffer : List ℕ) → let t = planTree slots (widthOf strategy) ks in answerOf m slots strategy ks buffer ≡ topNode slots (t .bits) (t .leaves) buffer
+  unfolding answerOf
+  answer-is m buffer = ap (λ (g : LinearTransformationStrategy). answerOf m slots g ks buffer) powers
+
+  -- as many switches as pairs
+  pub pairs-many : length (giantSchedule slots strategy ks) ≡ treeSwitches (planTree slots (widthOf strategy) ks)
+  pairs-many = let t = planTree slots (widthOf strategy) ks in ap length (schedule-is ∙ pair-table slots (widthOf strategy) ks) ∙ length-tabulate (treeSwitches t) _
+
+  -- the answer of no giants, and of some
+  pub answer-none : (m : ℕ) (buffer : List ℕ) → length (planGiants slots strategy ks) ≡ 0 → answerOf m slots strategy ks buffer ≡ tabulate slots (λ s. 0)
+  answer-none m buffer e = let t = planTree slots (widthOf strategy) ks in answer-is m buffer ∙ by (t .leaves) (length-leaves slots (widthOf strategy) ks ∙ e)
+    where
+      by : (ls : List ℕ) → length ls ≡ 0 → topNode slots (planTree slots (widthOf strategy) ks .bits) ls buffer ≡ tabulate slots (λ s. 0)
+      by [] h = refl
+      by (l ∷ ls) h = absurd (omega arith)
+
+  pub answer-some : widthOutside strategy ≡ false → Distinct slots ks → (m : ℕ) (buffer : List ℕ) → 0 < length (planGiants slots strategy ks) → answerOf m slots strategy ks buffer ≡ take slots buffer
+  answer-some w d m buffer h =
+      let width = widthOf strategy in
+      let t = planTree slots width ks in
+      answer-is m buffer
+      ∙ by-top slots (t .bits) (t .leaves) buffer (rw (length-leaves slots width ks) h) (leaf-low slots width ks 0 h) (tree-rises slots width ks (distinct-planned d width (width-positive strategy w)))
