@@ -194,3 +194,128 @@ module _ (slots : ℕ) (strategy : LinearTransformationStrategy) (ks : List ℕ)
       let t = planTree slots width ks in
       answer-is m buffer
       ∙ by-top slots (t .bits) (t .leaves) buffer (rw (length-leaves slots width ks) h) (leaf-low slots width ks 0 h) (tree-rises slots width ks (distinct-planned d width (width-positive strategy w)))
+
+width-range : (strategy : LinearTransformationStrategy) → widthOutside strategy ≡ false → Range (widthOf strategy)
+width-range (Bsgs width) w = record { low = inside width w .0; high = inside width w .1 }
+width-range (BsgsPowersOfTwo width) w = record { low = inside width w .0; high = inside width w .1 }
+width-range Direct w = record { low = omega arith; high = omega arith }
+
+-- ---- its words in front of buffers
+
+module _ (slots : ℕ) (strategy : LinearTransformationStrategy) (ks : List ℕ) (s : 1 ≤ stepOf slots strategy ks) (levels records old-levels old-records : List ℕ) (size : ℕ)
+    (el : levels ≡ inFront (planLevels slots strategy ks) old-levels) (er : records ≡ inFront (planRecords slots strategy ks) old-records) (es : size ≡ 2 ^ planTree slots (widthOf strategy) ks .bits) where
+  abbrev width : ℕ
+  width = widthOf strategy
+
+  abbrev t : Tree
+  t = planTree slots width ks
+
+  abbrev gs : List ℕ
+  gs = planGiants slots strategy ks
+
+  pub leaves-are : leavesBy slots (widthOf strategy) size (planGiants slots strategy ks) ≡ planTree slots (widthOf strategy) ks .leaves
+  leaves-are = rw es (sym (tree-leaves slots width ks))
+
+  levels-front : levels ≡ levelWords (t .levels) ++ drop (length (levelWords (t .levels))) old-levels
+  unfolding inFront
+  levels-front = rw (← levels-are slots strategy ks s) el
+
+  records-front : records ≡ recordWords (t .levels) ++ drop (length (recordWords (t .levels))) old-records
+  unfolding inFront
+  records-front = rw (← records-are slots strategy ks s) er
+
+  levels-room : 2 * t .bits ≤ length levels
+  levels-room = omega (arith, ap length levels-front ∙ length-append (levelWords (t .levels)) _, tree-levels-length slots width ks)
+
+  words-many : length (recordWords (t .levels)) ≡ 2 * treeSwitches t
+  unfolding planRecords pairCount
+  words-many = records-length slots (BsgsPowersOfTwo width) ks
+
+  records-room : 2 * treeSwitches t ≤ length records
+  records-room = omega (arith, ap length records-front ∙ length-append (recordWords (t .levels)) _, words-many)
+
+  module _ (q : ℕ) (h : q < treeSwitches (planTree slots (widthOf strategy) ks)) where
+    count : q < length (pairsOf (t .levels))
+    unfolding treeSwitches
+    count = h
+
+    level-under : levelOf (t .levels) q < t .bits
+    level-under = omega (arith, level-low (t .levels) q count, tree-height slots width ks)
+
+    pub level-is : levelIn levels q ≡ levelOf (planTree slots (widthOf strategy) ks .levels) q
+    level-is = rw levels-front (level-in (t .levels) _ q count)
+
+    pub turn-is : let t = planTree slots (widthOf strategy) ks in getD levels (2 * levelIn levels q) 0 ≡ rotationAt (t .levels) (levelOf (t .levels) q)
+    turn-is =
+        ap (λ (i : ℕ). getD levels (2 * i) 0) level-is
+        ∙ ap (λ (ws : List ℕ). getD ws (2 * levelOf (t .levels) q) 0) levels-front
+        ∙ List·getD-append (levelWords (t .levels)) _ 0 (2 * levelOf (t .levels) q) (omega (arith, level-under, tree-levels-length slots width ks))
+        ∙ level-rotation-word (t .levels) (levelOf (t .levels) q)
+
+    odd-is : getD records (2 * q) 0 ≡ pairOf (t .levels) q .odd
+    odd-is =
+        ap (λ (ws : List ℕ). getD ws (2 * q) 0) records-front
+        ∙ List·getD-append (recordWords (t .levels)) _ 0 (2 * q) (omega (arith, words-many))
+        ∙ record-odd (t .levels) q
+
+    even-is : not (eqb (getD records (2 * q + 1) 0) 0) ≡ pairOf (t .levels) q .even-there
+    even-is =
+        ap (λ (ws : List ℕ). not (eqb (getD ws (2 * q + 1) 0) 0)) records-front
+        ∙ ap (λ (x : ℕ). not (eqb x 0)) (List·getD-append (recordWords (t .levels)) _ 0 (2 * q + 1) (omega (arith, words-many)) ∙ record-even (t .levels) q)
+        ∙ flagged (pairOf (t .levels) q .even-there)
+      where
+        flagged : (b : Bool) → not (eqb (flag b) 0) ≡ b
+        flagged true = refl
+        flagged false = refl
+
+    pub pair-is : pairIn records q ≡ pairOf (planTree slots (widthOf strategy) ks .levels) q
+    pair-is = rw (odd-is, even-is)
+
+    join-is : joinAt gs width slots size levels records q ≡ joined (t .leaves) (levelOf (t .levels) q) (rotationAt (t .levels) (levelOf (t .levels) q)) (pairOf (t .levels) q)
+    join-is =
+        ap (λ (ls : List ℕ). joined ls (levelIn levels q) (getD levels (2 * levelIn levels q) 0) (pairIn records q)) leaves-are
+        ∙ ap (λ (k : ℕ). joined (t .leaves) (levelIn levels q) k (pairIn records q)) turn-is
+        ∙ ap (λ (i : ℕ). joined (t .leaves) i (rotationAt (t .levels) (levelOf (t .levels) q)) (pairIn records q)) level-is
+        ∙ ap (joined (t .leaves) (levelOf (t .levels) q) (rotationAt (t .levels) (levelOf (t .levels) q))) pair-is
+
+    -- what a pair asks
+    pair-of : Range slots → widthOutside strategy ≡ false → Distinct slots ks → (k : ℕ) → length gs * slots ≤ k → PairAsked gs width slots size levels records k q
+    pair-of r w d k room =
+        let p = distinct-planned d width (width-positive strategy w) in
+        let f = tree-pair slots width ks q count in
+        record {
+          leafy =
+              record {
+                slots-in = r;
+                width-in = width-range strategy w;
+                each = each-both (λ g l m. record { reduced = l; multiple = m }) gs (giants-below slots width ks) (giants-multiple slots width ks);
+                rises = rw leaves-are (tree-rises slots width ks p);
+              };
+          record-inside = omega (arith, records-room);
+          level-inside = omega (arith, level-is, level-under, levels-room);
+          level-low = omega (arith, level-is, level-under, tree-bits-low slots width ks (p .positive) (r .high));
+          odd-some = rw odd-is (f .odd-some);
+          odd-there = rw (leaves-are, level-is, odd-is) (f .odd-there);
+          even-there = λ e. rw (leaves-are, level-is, odd-is) (sym (f .even-is) ∙ sym even-is ∙ e);
+          small = rw (odd-is, level-is) (tree-node slots width ks p (r .high) _ _ (f .odd-there));
+          turn-low = rw turn-is (tree-turn slots width ks (r .low) (levelOf (t .levels) q) level-under);
+          room = room;
+        }
+
+  module _ (n : ℕ) (h : n ≤ length (giantSchedule slots strategy ks)) where
+    below-pairs : n ≤ treeSwitches t
+    below-pairs = omega (arith, pairs-many slots strategy ks s)
+
+    -- the first switches, as a table over the pairs
+    pub pairs-by : tabulate n (joinAt (planGiants slots strategy ks) (widthOf strategy) slots size levels records) ≡ take n (giantSchedule slots strategy ks)
+    pairs-by =
+        tabulate-cong n (joinAt gs width slots size levels records) _ (λ q l. join-is q (omega (arith, below-pairs)))
+        ∙ sym (ap (take n) (schedule-is slots strategy ks s ∙ pair-table slots width ks) ∙ take-tabulate n (treeSwitches t) _ below-pairs)
+
+    -- and their rotations
+    pub pairs-logged : tabulate n (λ q. rotationOf (joinAt (planGiants slots strategy ks) (widthOf strategy) slots size levels records q)) ≡ map rotationOf (take n (giantSchedule slots strategy ks))
+    pairs-logged = sym (map-tabulate rotationOf n (joinAt gs width slots size levels records)) ∙ ap (map rotationOf) pairs-by
+
+    -- what the loop over them asks
+    pub pairs-of : Range slots → widthOutside strategy ≡ false → Distinct slots ks → (k : ℕ) → length (planGiants slots strategy ks) * slots ≤ k → PairsAsked (planGiants slots strategy ks) (widthOf strategy) slots size levels records n k
+    pairs-of r w d k room = record { each = λ q l. pair-of q (omega (arith, below-pairs)) r w d k room }
