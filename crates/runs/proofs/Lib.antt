@@ -12,4 +12,5 @@ pub mod GiantNodes
 pub mod Joining
 pub mod Pairing
 pub mod FromGiants
+pub mod TreePairs
 pub mod FromPairs
