@@ -14,3 +14,6 @@ pub mod Pairing
 pub mod NodeAnswers
 pub mod FromBabies
 pub mod FromNodes
+pub mod FromGiants
+pub mod TreePairs
+pub mod FromPairs
