@@ -50,7 +50,7 @@ fn refused(code: u32) -> Survey
 
 // What the run would take, with no word written but the offsets: refuses with 1 or 2 a map, with 3 a
 // strategy's width, with 7 an input that is not slots long and with 11 a key that is not held.
-fn survey(
+fn look_over(
     slots: usize,
     count: usize,
     pairs: &[u32],
