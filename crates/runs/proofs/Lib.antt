@@ -17,3 +17,5 @@ pub mod FromNodes
 pub mod FromGiants
 pub mod TreePairs
 pub mod FromPairs
+pub mod LookingOver
+pub mod PlanWriting

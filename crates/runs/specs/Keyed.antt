@@ -31,31 +31,34 @@ pub record Lent : Type 0 where
   pub log : List ℕ
   pub out : List ℕ
 
+abbrev pub lent : List ℕ → List ℕ → List ℕ → List ℕ → List ℕ → List ℕ → Lent
+lent plan records cache nodes log out = record { plan = plan; records = records; cache = cache; nodes = nodes; log = log; out = out }
+
 abbrev pub lentState : Lent → State
 lentState l = record { cache = l .cache; nodes = l .nodes; log = l .log; out = l .out; made = 0 }
 
 -- 12: plan B + 3G + D words, the tree's pairs, cache (B - 1)·slots, nodes G·slots, log all switches, out slots
 abbrev pub keyedRoom : ℕ → LinearTransformationStrategy → List Diagonal → Lent → List (Bool × ℕ)
-keyedRoom slots strategy ds lent =
+keyedRoom slots strategy ds words =
     let b = length (mapBabies slots strategy ds) in
     let g = length (mapGiants slots strategy ds) in
-    (ltb (length (lent .plan)) (b + 3 * g + length ds), 12)
-    ∷ (ltb (length (lent .records)) (2 * pairCount slots strategy (offsetsOf ds)), 12)
-    ∷ (ltb (length (lent .cache)) ((b - 1) * slots), 12)
-    ∷ (ltb (length (lent .nodes)) (g * slots), 12)
-    ∷ (ltb (length (lent .log)) (mapSwitches slots strategy ds), 12)
-    ∷ (ltb (length (lent .out)) slots, 12)
+    (ltb (length (words .plan)) (b + 3 * g + length ds), 12)
+    ∷ (ltb (length (words .records)) (2 * pairCount slots strategy (offsetsOf ds)), 12)
+    ∷ (ltb (length (words .cache)) ((b - 1) * slots), 12)
+    ∷ (ltb (length (words .nodes)) (g * slots), 12)
+    ∷ (ltb (length (words .log)) (mapSwitches slots strategy ds), 12)
+    ∷ (ltb (length (words .out)) slots, 12)
     ∷ []
 
 abbrev pub keyedRefusal : ℕ → ℕ → List ℕ → List ℕ → List ℕ → LinearTransformationStrategy → List ℕ → Lent → ℕ
-keyedRefusal slots count pairs values input strategy held lent =
+keyedRefusal slots count pairs values input strategy held words =
     let ds = view count pairs values in
     firstOf
     (mapRefusals slots count pairs values
     ++ (widthOutside strategy, 3)
     ∷ (not (eqb (length input) slots), 7)
     ∷ (isMissing held (mapKeys slots strategy ds), 11)
-    ∷ keyedRoom slots strategy ds lent)
+    ∷ keyedRoom slots strategy ds words)
 
 -- ---- the answer
 
@@ -82,11 +85,11 @@ keyedAnswered (suc e) slots strategy ds n = Refused (suc e)
 
 -- the words that an accepted run of n switches leaves
 unfoldable pub keyedLeft : ℕ → LinearTransformationStrategy → List Diagonal → List ℕ → Lent → ℕ → Lent
-keyedLeft slots strategy ds input lent n =
-    let st = machine modulus slots strategy ds input (lentState lent) n in
+keyedLeft slots strategy ds input words n =
+    let st = machine modulus slots strategy ds input (lentState words) n in
     record {
-      plan = inFront (mapPlan slots strategy ds) (lent .plan);
-      records = inFront (planRecords slots strategy (offsetsOf ds)) (lent .records);
+      plan = inFront (mapPlan slots strategy ds) (words .plan);
+      records = inFront (planRecords slots strategy (offsetsOf ds)) (words .records);
       cache = st .cache;
       nodes = st .nodes;
       log = st .log;
@@ -95,4 +98,4 @@ keyedLeft slots strategy ds input lent n =
 
 pub record KeyedRun (slots count : ℕ) (pairs values input : List ℕ) (strategy : LinearTransformationStrategy) (held : List ℕ) (n : ℕ) (old new : Lent) (r : KeyedAnswer) : Type 0 where
   pub answer : r ≡ keyedAnswered (keyedRefusal slots count pairs values input strategy held old) slots strategy (view count pairs values) n
-  pub lent : new ≡ onAccept (keyedRefusal slots count pairs values input strategy held old) (keyedLeft slots strategy (view count pairs values) input old n) old
+  pub words : new ≡ onAccept (keyedRefusal slots count pairs values input strategy held old) (keyedLeft slots strategy (view count pairs values) input old n) old

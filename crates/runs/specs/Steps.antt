@@ -3,5 +3,5 @@ pub mod Plain
 pub mod Keyed
 pub mod Nodes
 pub mod Giants
-pub mod Runs
 pub mod Surveys
+pub mod Runs

@@ -3,7 +3,16 @@
 ghost use mathlib.Core.Path.{_≡_};
 ghost use lib.ListN.{length};
 ghost use Rattle.ring.specs.Refusals.{firstOf};
+ghost use Prim.Native.Nat.{_-_, _≤_};
+ghost use Rattle.runs.specs.Keyed.{lent, KeyedRun};
+ghost use Rattle.linear_transformation.specs.Plans.{widthOf};
 ghost use Rattle.runs.specs.Steps.Surveys.{noSurvey, Surveyed, Sized, surveyRoom, PlanAsked, PlanLeft};
+ghost use Rattle.runs.specs.Steps.Runs.{TurningAsked, NodesTurned, RunAsked, GiantsLeft, RunLeft};
+use crate::answering::give_answer;
+use crate::caching::make_babies;
+use crate::giants::join_pairs;
+use crate::giants::turn_giants;
+use crate::nodes::make_nodes;
 use linear_transformation::LinearTransformationStrategy;
 use linear_transformation::NeedsAnswer;
 use linear_transformation::TreeAnswer;
@@ -148,5 +157,245 @@ fn write_plan(
         TreeAnswer::Is { bits: b, pairs: _ } => b,
         TreeAnswer::NoTree => 0,
         TreeAnswer::Refused(_) => 0,
+    }
+}
+
+fn width_of(strategy: LinearTransformationStrategy) -> usize
+    ensures { λ r. ⌜ r ≡ widthOf strategy ⌝ }
+{
+    match strategy {
+        LinearTransformationStrategy::Bsgs { giant_step: g } => g,
+        LinearTransformationStrategy::BsgsPowersOfTwo { giant_step: g } => g,
+        LinearTransformationStrategy::Direct => 1,
+    }
+}
+
+// The first `made` of the giant switches, `turns` in all, with their rotations in the log from `logged`
+// on. Step 0 says that each rotation has its own key; a giant 0, if there is one, stands first and is
+// not turned.
+fn turn_nodes(
+    step: u32,
+    turns: usize,
+    width: usize,
+    size: u32,
+    made: usize,
+    slots: usize,
+    giants: &[u32],
+    levels: &[u32],
+    records: &[u32],
+    nodes: &mut [u64],
+    log: &mut [u32],
+    logged: usize,
+)
+    requires { ⌜ TurningAsked step turns width size made slots (now giants) (now levels) (now records) (now nodes) (now log) logged ⌝ }
+    ensures { λ _. ⌜ NodesTurned step turns width size made slots (now (giants .entry)) (now (levels .entry)) (now (records .entry)) (now (nodes .entry)) (now (nodes .exit)) (now (log .entry)) (now (log .exit)) logged ⌝ }
+{
+    if step == 0 {
+        let start = giants.len() - turns;
+        turn_giants(giants, start, made, slots, nodes, log, logged);
+        return;
+    }
+    join_pairs(
+        giants,
+        width,
+        slots,
+        size,
+        levels,
+        records,
+        made,
+        nodes,
+        log,
+        logged,
+    );
+}
+
+// All that follows the last baby switch: the nodes, the giant switches as far as n allows, and after the
+// last of them the answer.
+fn run_giants<'a>(
+    strategy: LinearTransformationStrategy,
+    survey: Survey,
+    bits: u32,
+    n: usize,
+    pairs: &[u32],
+    values: &[u64],
+    input: &'a [u64],
+    plan: &[u32],
+    levels: &[u32],
+    records: &[u32],
+    cache: &'a [u64],
+    nodes: &mut [u64],
+    log: &mut [u32],
+    out: &mut [u64],
+)
+    requires { ⌜ RunAsked strategy survey bits (now pairs) (now values) (now input) (now plan) (now levels) (now records) (now cache) (now nodes) (now log) (now out) ⌝ }
+    requires { ⌜ survey .babies - 1 ≤ n ⌝ }
+    ensures { λ _. ⌜ GiantsLeft strategy survey n (now (pairs .entry)) (now (values .entry)) (now (input .entry)) (now (cache .entry)) (now (nodes .entry)) (now (nodes .exit)) (now (log .entry)) (now (log .exit)) (now (out .entry)) (now (out .exit)) ⌝ }
+{
+    let b = survey.babies;
+    let g = b + survey.giants;
+    let c = g + 2 * survey.giants;
+    make_nodes(
+        &plan[..b],
+        &plan[b..g],
+        &plan[g..c],
+        pairs,
+        values,
+        input,
+        cache,
+        nodes,
+    );
+    let slots = input.len();
+    let own = b - 1;
+    let made = ring::least(n, survey.switches) - own;
+    let turns = survey.switches - own;
+    turn_nodes(
+        survey.step,
+        turns,
+        width_of(strategy),
+        1u32 << bits,
+        made,
+        slots,
+        &plan[b..g],
+        levels,
+        records,
+        nodes,
+        log,
+        own,
+    );
+    if n < survey.switches {
+        return;
+    }
+    give_answer(survey.step, survey.giants, nodes, &mut out[..slots]);
+}
+
+// The machine of document 01 after n switches.
+fn run_plan(
+    strategy: LinearTransformationStrategy,
+    survey: Survey,
+    bits: u32,
+    n: usize,
+    pairs: &[u32],
+    values: &[u64],
+    input: &[u64],
+    plan: &[u32],
+    levels: &[u32],
+    records: &[u32],
+    cache: &mut [u64],
+    nodes: &mut [u64],
+    log: &mut [u32],
+    out: &mut [u64],
+)
+    requires { ⌜ RunAsked strategy survey bits (now pairs) (now values) (now input) (now plan) (now levels) (now records) (now cache) (now nodes) (now log) (now out) ⌝ }
+    ensures { λ _. ⌜ RunLeft strategy survey n (now (pairs .entry)) (now (values .entry)) (now (input .entry)) (now (cache .entry)) (now (cache .exit)) (now (nodes .entry)) (now (nodes .exit)) (now (log .entry)) (now (log .exit)) (now (out .entry)) (now (out .exit)) ⌝ }
+{
+    let b = survey.babies;
+    let own = b - 1;
+    let first = ring::least(n, own);
+    make_babies(&plan[..b], survey.step, first, input, cache, log);
+    if n < own {
+        return;
+    }
+    run_giants(
+        strategy,
+        survey,
+        bits,
+        n,
+        pairs,
+        values,
+        input,
+        plan,
+        levels,
+        records,
+        cache,
+        nodes,
+        log,
+        out,
+    );
+}
+
+// The keyed run, allowed n switches: writes plan and pair records in full, two words a pair, and leaves
+// in cache, nodes, log and out what document 01's machine leaves after n switches; finished, out begins
+// with the product. Refuses with 1 or 2 a map, with 3 a strategy's width, with 7 an input that is not
+// slots long, with 11 a key rotation of the plan that is not on the held list, and with 12 an output
+// that is shorter than its whole result; then every word is as it was.
+pub fn evaluate_keyed(
+    slots: usize,
+    count: usize,
+    pairs: &[u32],
+    values: &[u64],
+    input: &[u64],
+    strategy: LinearTransformationStrategy,
+    held: &[u64],
+    n: u64,
+    plan: &mut [u32],
+    records: &mut [u32],
+    cache: &mut [u64],
+    nodes: &mut [u64],
+    log: &mut [u32],
+    out: &mut [u64],
+) -> KeyedAnswer
+    ensures { λ r. ⌜ KeyedRun slots count (now (pairs .entry)) (now (values .entry)) (now (input .entry)) strategy (now (held .entry)) n (lent (now (plan .entry)) (now (records .entry)) (now (cache .entry)) (now (nodes .entry)) (now (log .entry)) (now (out .entry))) (lent (now (plan .exit)) (now (records .exit)) (now (cache .exit)) (now (nodes .exit)) (now (log .exit)) (now (out .exit))) r ⌝ }
+{
+    let mut offsets = [0u32; 65536];
+    let survey = look_over(
+        slots,
+        count,
+        pairs,
+        values,
+        input,
+        strategy,
+        held,
+        &mut offsets,
+    );
+    let code = survey.refusal;
+    if code != 0 {
+        return KeyedAnswer::Refused(code);
+    }
+    let room = room_refusal(
+        survey,
+        slots,
+        plan.len(),
+        records.len(),
+        cache.len(),
+        nodes.len(),
+        log.len(),
+        out.len(),
+    );
+    if room != 0 {
+        return KeyedAnswer::Refused(room);
+    }
+    let mut levels = [0u32; 32];
+    let bits = write_plan(
+        &offsets[..count],
+        slots,
+        strategy,
+        plan,
+        records,
+        &mut levels,
+    );
+    let limit = n as usize;
+    run_plan(
+        strategy,
+        survey,
+        bits,
+        limit,
+        pairs,
+        values,
+        input,
+        plan,
+        &levels,
+        records,
+        cache,
+        nodes,
+        log,
+        out,
+    );
+    KeyedAnswer::Is {
+        switches: ring::least(limit, survey.switches),
+        finished: survey.switches <= limit,
+        babies: survey.babies as u32,
+        giants: survey.giants as u32,
+        diagonals: count as u32,
+        pairs: survey.pairs,
     }
 }

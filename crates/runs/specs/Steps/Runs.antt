@@ -1,11 +1,23 @@
--- What the private steps of the keyed run's last parts ask and ensure.
+-- What the private steps of the keyed run's parts ask and ensure: the answer, the giant switches, and the whole run.
 -- Assumes nothing.
-use Prim.Native.Nat.{ℕ, zero, suc, _*_, _≤_, _<_}
-use mathlib.Core.List.{List}
+use Prim.Native.Nat.{ℕ, zero, suc, _+_, _-_, _*_, _≤_, _<_}
+use mathlib.Core.Path.{_≡_}
+use mathlib.Core.Bool.{cond}
+use mathlib.Core.List.{List, map}
+use lib.Dec.{ltb}
 use lib.ListN.{length, getD, take}
 use Rattle.ring.specs.Slots.{modulus, addm}
-use Rattle.ring.specs.Vectors.{tabulate}
-use Rattle.runs.specs.Machines.{nodeSum}
+use Rattle.ring.specs.Vectors.{tabulate, inFront, putAt}
+use Rattle.diagonals.specs.Maps.{offsetsOf, view}
+use Rattle.linear_transformation.specs.declared.LinearTransformationStrategy.{LinearTransformationStrategy}
+use Rattle.linear_transformation.specs.Schedules.{planBabies, planGiants, planWords, planSwitches}
+use Rattle.linear_transformation.specs.Stored.{planRecords, planLevels}
+use Rattle.runs.specs.declared.keyed.Survey.{Survey}
+use Rattle.runs.specs.Switches.{Switch, rotationOf, giantSchedule}
+use Rattle.runs.specs.Machines.{State, nodeSum, nodeWords, answerOf, machine}
+use Rattle.runs.specs.Steps.Keyed.{nodesBy}
+use Rattle.runs.specs.Steps.Giants.{turnAt, joinAt, TurnsAsked, PairsAsked}
+use Rattle.runs.specs.Steps.Surveys.{takes, bitsBy, Taken}
 
 -- ---- the answer
 
@@ -26,3 +38,60 @@ topBy (suc g) nodes slots = take slots nodes
 abbrev pub answerBy : ℕ → ℕ → List ℕ → ℕ → List ℕ
 answerBy zero giants nodes slots = nodeSum modulus slots giants nodes
 answerBy (suc c) giants nodes slots = topBy giants nodes slots
+
+-- ---- the giant switches
+
+-- by the step, 0 per rotation; of `turns` giants that turn
+abbrev pub switchBy : ℕ → ℕ → ℕ → ℕ → ℕ → List ℕ → List ℕ → List ℕ → ℕ → Switch
+switchBy zero turns width size slots gs levels records = turnAt gs (length gs - turns)
+switchBy (suc c) turns width size slots gs levels records = joinAt gs width slots size levels records
+
+pub record TurningAsked (step turns width size made slots : ℕ) (gs levels records nodes log : List ℕ) (logged : ℕ) : Type 0 where
+  pub own : step ≡ 0 → (turns ≤ length gs) × TurnsAsked gs (length gs - turns) made slots nodes log logged
+  pub powers : 1 ≤ step → PairsAsked gs width slots size levels records made (length nodes)
+  pub log-room : logged + made ≤ length log
+
+pub record NodesTurned (step turns width size made slots : ℕ) (gs levels records nodes nodes' log log' : List ℕ) (logged : ℕ) : Type 0 where
+  pub turned : nodes' ≡ nodesBy modulus slots nodes (tabulate made (switchBy step turns width size slots gs levels records))
+  pub logs : log' ≡ putAt logged (tabulate made (λ q. rotationOf (switchBy step turns width size slots gs levels records q))) log
+
+-- ---- the run
+
+-- the plan of an accepted map is written, and there is room for the rest
+pub record RunAsked (strategy : LinearTransformationStrategy) (survey : Survey) (bits : ℕ) (pairs values input plan levels records cache nodes log out : List ℕ) : Type 0 where
+  pub taken : Taken (length input) (survey .diagonals) pairs values input strategy
+  pub survey-is : survey ≡ takes (length input) strategy (offsetsOf (view (survey .diagonals) pairs values)) (survey .diagonals)
+  pub bits-are : bits ≡ bitsBy (length input) strategy (offsetsOf (view (survey .diagonals) pairs values))
+  pub old-plan : List ℕ
+  pub plan-is : plan ≡ inFront (planWords (length input) strategy (offsetsOf (view (survey .diagonals) pairs values))) old-plan
+  pub plan-room : length (planWords (length input) strategy (offsetsOf (view (survey .diagonals) pairs values))) ≤ length plan
+  pub old-levels : List ℕ
+  pub levels-are : levels ≡ inFront (planLevels (length input) strategy (offsetsOf (view (survey .diagonals) pairs values))) old-levels
+  pub old-records : List ℕ
+  pub records-are : records ≡ inFront (planRecords (length input) strategy (offsetsOf (view (survey .diagonals) pairs values))) old-records
+  pub cache-room : (survey .babies - 1) * length input ≤ length cache
+  pub nodes-room : survey .giants * length input ≤ length nodes
+  pub log-room : survey .switches ≤ length log
+  pub out-room : length input ≤ length out
+
+-- what follows the last baby switch leaves, from a full cache on
+abbrev pub turnedNodes : LinearTransformationStrategy → Survey → ℕ → List ℕ → List ℕ → List ℕ → List ℕ → List ℕ → List ℕ
+turnedNodes strategy survey n pairs values input cache nodes =
+    let ds = view (survey .diagonals) pairs values in
+    nodesBy modulus (length input) (inFront (nodeWords modulus (length input) strategy ds input cache) nodes) (take (n - (survey .babies - 1)) (giantSchedule (length input) strategy (offsetsOf ds)))
+
+pub record GiantsLeft (strategy : LinearTransformationStrategy) (survey : Survey) (n : ℕ) (pairs values input cache nodes nodes' log log' out out' : List ℕ) : Type 0 where
+  pub nodes-are : nodes' ≡ turnedNodes strategy survey n pairs values input cache nodes
+  pub log-is : log' ≡ putAt (survey .babies - 1) (map rotationOf (take (n - (survey .babies - 1)) (giantSchedule (length input) strategy (offsetsOf (view (survey .diagonals) pairs values))))) log
+  pub out-is : out' ≡ cond (ltb n (survey .switches)) out (inFront (answerOf modulus (length input) strategy (offsetsOf (view (survey .diagonals) pairs values)) nodes') out)
+
+-- the machine after n switches, from the lent words on
+abbrev pub leftBy : LinearTransformationStrategy → Survey → ℕ → List ℕ → List ℕ → List ℕ → List ℕ → List ℕ → List ℕ → List ℕ → State
+leftBy strategy survey n pairs values input cache nodes log out =
+    machine modulus (length input) strategy (view (survey .diagonals) pairs values) input (record { cache = cache; nodes = nodes; log = log; out = out; made = 0 }) n
+
+pub record RunLeft (strategy : LinearTransformationStrategy) (survey : Survey) (n : ℕ) (pairs values input cache cache' nodes nodes' log log' out out' : List ℕ) : Type 0 where
+  pub cache-is : cache' ≡ leftBy strategy survey n pairs values input cache nodes log out .cache
+  pub nodes-are : nodes' ≡ leftBy strategy survey n pairs values input cache nodes log out .nodes
+  pub log-is : log' ≡ leftBy strategy survey n pairs values input cache nodes log out .log
+  pub out-is : out' ≡ leftBy strategy survey n pairs values input cache nodes log out .out
