@@ -60,9 +60,10 @@ fn any_run(random: &mut Random, slots: usize) -> Run {
         Stored::of(&any_map(random, slots))
     } else {
         let mut list: Vec<i64> = any_list(random, slots).iter().map(|k| k.rem_euclid(slots as i64)).collect();
+        // So that a run stays short; the list is in no order.
+        list.truncate(100);
         list.sort_unstable();
         list.dedup();
-        list.truncate(100);
         map_of(random, slots, &list)
     };
     let how = (random.below(3) as u32, any_width(random, slots));
@@ -94,12 +95,13 @@ fn held_among(random: &mut Random, keys: &[u64], others: &[u64]) -> Vec<u64> {
     held
 }
 
-/// The first place where two buffers differ, and what they hold there.
-type Difference = Option<(usize, u64, u64)>;
+/// The first place where two buffers differ, and what they hold there, if anything.
+type Difference = Option<(usize, Option<u64>, Option<u64>)>;
 
 fn difference<T: Copy + PartialEq + Into<u64>>(ours: &[T], right: &[T]) -> Difference {
-    let place = ours.iter().zip(right).position(|(a, b)| a != b)?;
-    Some((place, ours[place].into(), right[place].into()))
+    let at = |words: &[T], place: usize| words.get(place).map(|&w| w.into());
+    let same = ours.iter().zip(right).take_while(|(a, b)| a == b).count();
+    (same < ours.len().max(right.len())).then(|| (same, at(ours, same), at(right, same)))
 }
 
 fn differences(ours: &Buffers, right: &Buffers) -> [Difference; 6] {
@@ -113,10 +115,19 @@ fn differences(ours: &Buffers, right: &Buffers) -> [Difference; 6] {
     ]
 }
 
+/// A job in few words, so that what differs is read behind it.
+fn told(job: Job) -> String {
+    let Job { n, kind, giant_step, held, map, input } = job;
+    let sizes = (map.slots, map.count, input.len());
+    let mut text = format!("n {n}, kind {kind}, width {giant_step}, sizes {sizes:?}, {:?}, held {held:?}", map.pairs);
+    text.truncate(250);
+    text
+}
+
 /// Ours on these buffers, beside an answer and what they should hold.
 fn check_against(cases: &mut Cases, job: Job, lent: &Buffers, (right, words): &(KeyedNumbers, Buffers)) {
     let (numbers, now, around) = ours::watched_keyed(job, lent);
-    cases.same(|| format!("{job:?}"), (numbers, differences(&now, words), around), (*right, [None; 6], true));
+    cases.same(|| told(job), (numbers, differences(&now, words), around), (*right, [None; 6], true));
 }
 
 /// Every number and every word, beside the machine's.
@@ -214,7 +225,7 @@ fn check_finished(cases: &mut Cases, random: &mut Random, run: &Run) {
     };
     let (numbers, now, around) = ours::watched_keyed(run.job(&keys, switches as u64), &lent);
     words.nodes.clone_from(&now.nodes);
-    let call = || format!("{:?} {:?}", run.how, run.map);
+    let call = || told(run.job(&keys, switches as u64));
     cases.same(call, (numbers, differences(&now, &words), around), (right, [None; 6], true));
     if let Some(before) = switches.checked_sub(1) {
         let (numbers, now, _) = ours::watched_keyed(run.job(&keys, before as u64), &lent);
@@ -354,13 +365,16 @@ fn example(random: &mut Random, kind: u32) -> Run {
     Run::of(random, 16, &[0, 1, 2, 5, 15], (kind, 4))
 }
 
+/// A kind of strategy, and the keys, pairs and log of E6 by it.
+type Example<'a> = (u32, &'a [u64], &'a [u32], &'a [u32]);
+
 const E6_PLAN: [u32; 18] = [0, 1, 2, 3, 0, 4, 12, 0, 3, 3, 1, 4, 1, 0, 1, 2, 1, 3];
 
 /// E6 and E7: plan, pairs and log as document 01 has them, with room for no word more.
 fn check_examples(cases: &mut Cases, random: &mut Random) {
     let numbers =
         KeyedNumbers { refusal: 0, switches: 6, finished: true, babies: 4, giants: 3, diagonals: 5, pairs: 3 };
-    let jobs: [(u32, &[u64], &[u32], &[u32]); 2] =
+    let jobs: [Example; 2] =
         [(1, &[1, 2, 4, 8], &[1, 1, 3, 0, 1, 1], &[1, 2, 2, 4, 4, 8]), (0, &[1, 2, 3, 4, 12], &[], &[1, 2, 3, 4, 12])];
     for (kind, keys, records, log) in jobs {
         let run = example(random, kind);
@@ -544,7 +558,7 @@ pub fn sample(sample: &mut Sample) {
         // E10.
         record(sample, &small_run(&mut random, 4, &[], how), &[], 0, [1, 0, 0, 0, 0, 4]);
         // With powers of two, an odd without its even, of a width that does not divide slots.
-        let mut run = small_run(&mut random, 6, &[[1, 1], [5, 3]], how);
+        let mut run = small_run(&mut random, 6, &[[4, 1], [5, 3]], how);
         run.map.values[0] = u64::MAX;
         record_around(sample, &run);
     }
@@ -559,6 +573,7 @@ fn sigma_sized(random: &mut Random, length: usize) -> Stored {
     map
 }
 
+/// Beside the Rust's `evaluate`; beside our plain run; and, stopped at n = 0, beside our map test, plan and key rotations.
 pub fn bench(bench: &mut Bench) {
     let mut random = Random::new(20);
     for length in [MOST, 256] {
@@ -576,14 +591,14 @@ pub fn bench(bench: &mut Bench) {
             let mut plain = vec![0; MOST];
             if kind == 0 {
                 bench.pair(
-                    &format!("keyed run, 511 of {length}, {name}, the Rust's evaluate"),
+                    &format!("keyed, 511 of {length}, {name}, the Rust's evaluate"),
                     None,
                     || ours::evaluate_keyed(keep(run.job(&keys, u64::MAX)), &mut buffers),
                     || keep(&rust).evaluate(&rust_input, strategy),
                 );
             }
             bench.pair(
-                &format!("keyed run, 511 of {length}, {name}, our plain run"),
+                &format!("keyed, 511 of {length}, {name}, plain run"),
                 None,
                 || ours::evaluate_keyed(keep(run.job(&keys, u64::MAX)), &mut buffers),
                 || ours::evaluate(keep(run.map.lent()), &run.input, strategy, &mut plain),
@@ -591,7 +606,7 @@ pub fn bench(bench: &mut Bench) {
             assert_eq!(buffers.out, plain, "the keyed run and the plain run agree");
             let (mut plan, mut out) = (vec![0; buffers.plan.len()], vec![0; 2 * keys.len()]);
             bench.pair(
-                &format!("keyed run, 511 of {length}, {name}, n = 0, our plan"),
+                &format!("keyed, n = 0, 511 of {length}, {name}, plan"),
                 None,
                 || ours::evaluate_keyed(keep(run.job(&keys, 0)), &mut buffers),
                 || {
