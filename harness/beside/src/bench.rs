@@ -4,7 +4,7 @@ use std::hint::black_box;
 use std::process::ExitCode;
 use std::time::{Duration, Instant};
 
-use crate::{diagonals, matrices, plans, ring, runs};
+use crate::{diagonals, keyed, matrices, plans, ring, runs};
 
 pub use std::hint::black_box as keep;
 
@@ -77,6 +77,7 @@ pub fn run() -> ExitCode {
     plans::bench(&mut bench);
     matrices::bench(&mut bench);
     runs::bench(&mut bench);
+    keyed::bench(&mut bench);
     println!("{} missed", bench.missed);
     ExitCode::from((bench.missed > 0) as u8)
 }

@@ -121,7 +121,7 @@ fn any_index(random: &mut Random, slots: usize) -> i64 {
 }
 
 /// One period of values, from few values so that it may repeat sooner.
-fn any_period(random: &mut Random, slots: usize) -> Vec<u64> {
+pub fn any_period(random: &mut Random, slots: usize) -> Vec<u64> {
     let lengths: Vec<usize> = divisors(slots).collect();
     let length = lengths[random.below(lengths.len())];
     let kinds = 1 + random.below(3) as u64;
@@ -186,7 +186,7 @@ fn slot_counts() -> impl Iterator<Item = usize> {
 }
 
 /// The map, damaged in every way that well-formedness names.
-fn damaged(stored: &Stored, random: &mut Random) -> Vec<Stored> {
+pub fn damaged(stored: &Stored, random: &mut Random) -> Vec<Stored> {
     let mut all = Vec::new();
     let mut damage = |change: &dyn Fn(&mut Stored)| {
         let mut copy = stored.clone();

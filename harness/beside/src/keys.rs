@@ -85,7 +85,7 @@ fn right_passes(words: &Result<(Vec<u32>, Vec<u32>), u32>, passes: &[u32], moves
 }
 
 /// The words of the leaves, of the levels and of the pairs, or none per rotation.
-fn tree_words(tree: &GiantTree) -> [Vec<u32>; 3] {
+pub fn tree_words(tree: &GiantTree) -> [Vec<u32>; 3] {
     let (leaves, levels) = tree;
     [
         leaves.iter().copied().map(word).collect(),

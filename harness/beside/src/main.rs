@@ -5,8 +5,10 @@
 
 mod bench;
 mod diagonals;
+mod keyed;
 mod keys;
 mod linear_transformation;
+mod machine;
 mod matrices;
 mod ours;
 mod plans;
@@ -31,6 +33,7 @@ fn compare() -> ExitCode {
         keys::compare(&mut tally);
         matrices::compare(&mut tally);
         runs::compare(&mut tally);
+        keyed::compare(&mut tally);
         sample::compare(&mut tally);
         tally.close()
     };

@@ -63,6 +63,25 @@ pub struct TreeNumbers {
     pub pairs: usize,
 }
 
+/// What a keyed run made: its switches, whether it finished, the plan's numbers and the tree's pairs.
+#[repr(C)]
+#[derive(Clone, Copy, PartialEq, Eq, Debug)]
+pub struct KeyedNumbers {
+    pub refusal: u32,
+    pub switches: usize,
+    pub finished: bool,
+    pub babies: u32,
+    pub giants: u32,
+    pub diagonals: u32,
+    pub pairs: usize,
+}
+
+impl KeyedNumbers {
+    pub fn refused(refusal: u32) -> Self {
+        KeyedNumbers { refusal, switches: 0, finished: false, babies: 0, giants: 0, diagonals: 0, pairs: 0 }
+    }
+}
+
 /// A lent map.
 #[derive(Clone, Copy, Debug)]
 pub struct Map<'a> {
@@ -73,7 +92,7 @@ pub struct Map<'a> {
 }
 
 mod c {
-    use super::{Numbers, PassNumbers, PlanNumbers, SignedDigit, TreeNumbers, Truth};
+    use super::{KeyedNumbers, Numbers, PassNumbers, PlanNumbers, SignedDigit, TreeNumbers, Truth};
 
     unsafe extern "C" {
         pub safe fn sibukyaran_wrapping_mul(a: u64, b: u64) -> u64;
@@ -147,6 +166,27 @@ mod c {
         sibukyaran_shrink_period(po: *mut u32, pon: usize, vo: *mut u64, von: usize) -> Numbers;
         sibukyaran_transpose(po: *mut u32, pon: usize, vo: *mut u64, von: usize) -> Numbers;
         sibukyaran_evaluate(input: *const u64, n: usize, kind: u32, giant_step: usize, out: *mut u64, m: usize) -> u32;
+        sibukyaran_evaluate_keyed(
+            input: *const u64,
+            input_len: usize,
+            kind: u32,
+            giant_step: usize,
+            held: *const u64,
+            held_len: usize,
+            n: u64,
+            plan: *mut u32,
+            plan_len: usize,
+            records: *mut u32,
+            records_len: usize,
+            cache: *mut u64,
+            cache_len: usize,
+            nodes: *mut u64,
+            nodes_len: usize,
+            log: *mut u32,
+            log_len: usize,
+            out: *mut u64,
+            out_len: usize
+        ) -> KeyedNumbers;
     }
 
     /// Functions that build a map: their own arguments, then the lent pairs and values.
@@ -407,6 +447,77 @@ pub fn evaluate(map: Map, input: &[u64], strategy: Strategy, out: &mut [u64]) ->
 /// With any number for the kind of strategy.
 pub fn evaluate_kind(map: Map, input: &[u64], kind: u32, giant_step: usize, out: &mut [u64]) -> u32 {
     on_map!(sibukyaran_evaluate, map, input.as_ptr(), input.len(), kind, giant_step, out.as_mut_ptr(), out.len())
+}
+
+/// What a keyed run takes besides the buffers that it writes, with any number for the kind of strategy.
+#[derive(Clone, Copy, Debug)]
+pub struct Job<'a> {
+    pub n: u64,
+    pub kind: u32,
+    pub giant_step: usize,
+    pub held: &'a [u64],
+    pub map: Map<'a>,
+    pub input: &'a [u64],
+}
+
+/// The buffers that a keyed run writes.
+#[derive(Clone, PartialEq, Eq, Debug)]
+pub struct Buffers {
+    pub plan: Vec<u32>,
+    pub records: Vec<u32>,
+    pub cache: Vec<u64>,
+    pub nodes: Vec<u64>,
+    pub log: Vec<u32>,
+    pub out: Vec<u64>,
+}
+
+pub fn evaluate_keyed(job: Job, buffers: &mut Buffers) -> KeyedNumbers {
+    let Buffers { plan, records, cache, nodes, log, out } = buffers;
+    keyed_parts(job, plan, records, cache, nodes, log, out)
+}
+
+fn keyed_parts(
+    job: Job,
+    plan: &mut [u32],
+    records: &mut [u32],
+    cache: &mut [u64],
+    nodes: &mut [u64],
+    log: &mut [u32],
+    out: &mut [u64],
+) -> KeyedNumbers {
+    on_map!(
+        sibukyaran_evaluate_keyed,
+        job.map,
+        job.input.as_ptr(),
+        job.input.len(),
+        job.kind,
+        job.giant_step,
+        job.held.as_ptr(),
+        job.held.len(),
+        job.n,
+        plan.as_mut_ptr(),
+        plan.len(),
+        records.as_mut_ptr(),
+        records.len(),
+        cache.as_mut_ptr(),
+        cache.len(),
+        nodes.as_mut_ptr(),
+        nodes.len(),
+        log.as_mut_ptr(),
+        log.len(),
+        out.as_mut_ptr(),
+        out.len()
+    )
+}
+
+/// The same on a copy of the buffers: the answer, what they hold then, and whether the words around them are as they were.
+pub fn watched_keyed(job: Job, held: &Buffers) -> (KeyedNumbers, Buffers, bool) {
+    let (mut plan, mut records, mut log) = (Lent::new(&held.plan), Lent::new(&held.records), Lent::new(&held.log));
+    let (mut cache, mut nodes, mut out) = (Lent::new(&held.cache), Lent::new(&held.nodes), Lent::new(&held.out));
+    let numbers = keyed_parts(job, plan.part(), records.part(), cache.part(), nodes.part(), log.part(), out.part());
+    let [(plan, a), (records, b), (log, c)] = [plan.back(), records.back(), log.back()];
+    let [(cache, d), (nodes, e), (out, f)] = [cache.back(), nodes.back(), out.back()];
+    (numbers, Buffers { plan, records, cache, nodes, log, out }, [a, b, c, d, e, f] == [true; 6])
 }
 
 /// Words lent in the middle of others, which a call must leave alone.

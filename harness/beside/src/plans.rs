@@ -14,10 +14,10 @@ use crate::sample::Sample;
 use crate::tally::{Cases, Tally};
 
 /// A strategy as C takes it: its kind and its width.
-type How = (u32, usize);
+pub type How = (u32, usize);
 
 /// Document 01's refusals of a plan before the room is known, or the strategy.
-fn accepted(slots: usize, (kind, giant_step): How) -> Result<Strategy, u32> {
+pub fn accepted(slots: usize, (kind, giant_step): How) -> Result<Strategy, u32> {
     if outside(slots) {
         return Err(1);
     }
@@ -36,7 +36,7 @@ pub fn narrow(words: &[i64]) -> Vec<u32> {
 }
 
 /// The plan's words: babies, giants, pairs, index.
-fn plan_words(plan: &LinearTransformationPlan) -> Vec<u32> {
+pub fn plan_words(plan: &LinearTransformationPlan) -> Vec<u32> {
     let mut words = narrow(&plan.baby_steps);
     words.extend(narrow(&plan.giant_steps));
     let mut start = 0;
@@ -77,7 +77,7 @@ fn right_plan(plan: Result<&LinearTransformationPlan, u32>, held: &[u32]) -> (Pl
 }
 
 /// Document 01's key rotations of a plan: `giant_key_rotations` has none per rotation.
-fn plan_keys(plan: &LinearTransformationPlan) -> Vec<u32> {
+pub fn plan_keys(plan: &LinearTransformationPlan) -> Vec<u32> {
     let mut keys = plan.rotations.baby_key_rotations(plan.baby_steps.iter().copied());
     match plan.rotations {
         BsgsRotations::PerRotation => keys.extend(plan.giant_steps.iter().filter(|&&g| g != 0)),
@@ -88,7 +88,7 @@ fn plan_keys(plan: &LinearTransformationPlan) -> Vec<u32> {
     narrow(&keys)
 }
 
-fn plan_switches(plan: &LinearTransformationPlan) -> usize {
+pub fn plan_switches(plan: &LinearTransformationPlan) -> usize {
     let babies = plan.baby_steps.iter().filter(|&&b| b != 0).count();
     babies + plan.rotations.giant_key_switches(plan.giant_steps.iter().copied())
 }
@@ -196,7 +196,7 @@ pub fn disguised(random: &mut Random, list: &[i64], slots: usize) -> Vec<i64> {
 }
 
 /// A list of diagonals: dense, sparse, or multiples of a gap.
-fn any_list(random: &mut Random, slots: usize) -> Vec<i64> {
+pub fn any_list(random: &mut Random, slots: usize) -> Vec<i64> {
     let gap = [1, 1, 2, 3, 32, 256][random.below(6)];
     let most = (slots / gap).max(1);
     let longest = [4, 40, 600, most + 1][random.below(4)];
@@ -205,7 +205,7 @@ fn any_list(random: &mut Random, slots: usize) -> Vec<i64> {
     disguised(random, &list, slots)
 }
 
-fn any_width(random: &mut Random, slots: usize) -> usize {
+pub fn any_width(random: &mut Random, slots: usize) -> usize {
     let widths = [1, 2, 16, 256, slots.div_ceil(2), slots - 1, slots, slots + 1, MOST, 1 + random.below(slots)];
     widths[random.below(widths.len())].clamp(1, MOST)
 }

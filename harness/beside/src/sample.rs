@@ -7,7 +7,7 @@ use std::path::PathBuf;
 use std::process::ExitCode;
 
 use crate::tally::Tally;
-use crate::{diagonals, keys, linear_transformation, matrices, plans, ring, runs};
+use crate::{diagonals, keyed, keys, linear_transformation, matrices, plans, ring, runs};
 
 #[derive(Default)]
 pub struct Sample {
@@ -37,6 +37,7 @@ fn made() -> Sample {
     plans::sample(&mut sample);
     keys::sample(&mut sample);
     matrices::sample(&mut sample);
+    keyed::sample(&mut sample);
     assert!(sample.calls.len() <= LONGEST_TEXT, "the sample is too long: {} bytes", sample.calls.len());
     sample
 }
