@@ -19,3 +19,4 @@ pub mod TreePairs
 pub mod FromPairs
 pub mod LookingOver
 pub mod PlanWriting
+pub mod Running

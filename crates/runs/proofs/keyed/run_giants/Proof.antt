@@ -1,149 +1,116 @@
+-- `runs::keyed::run_giants` meets its contract. Assumes nothing.
+use native.Mathlib.Omega.{arith}
+use borrow.Author.Needs.{needs}
 use borrow.Author.Needs.{needs}
 use Rattle.runs.proofs.keyed.run_giants.Statement.{statement}
 use Rattle.runs.proofs.keyed.run_giants.Tie as tie
-use Rattle.runs.proofs.keyed.run_giants.Reads as reads
-use Rattle.runs.proofs.keyed.run_giants.Lts as lts
 use Rattle.ring.proofs.least.Reads as least-reads
 use Rattle.runs.proofs.answering.give_answer.Reads as give-answer-reads
 use Rattle.runs.proofs.keyed.turn_nodes.Reads as turn-nodes-reads
 use Rattle.runs.proofs.keyed.width_of.Reads as width-of-reads
 use Rattle.runs.proofs.nodes.make_nodes.Reads as make-nodes-reads
 
--- src/keyed.rt:234:13
 add-g : tie.Need-add-g
-add-g c = ?
+add-g c = search needs
 
--- src/keyed.rt:235:17
 mul-c : tie.Need-mul-c
-mul-c c = ?
+mul-c c = search needs
 
--- src/keyed.rt:235:13
 add-c : tie.Need-add-c
-add-c c = ?
+add-c c = search needs
 
--- src/keyed.rt:237:9
 slice-aggregate-make-nodes : tie.Need-slice-aggregate-make-nodes
-slice-aggregate-make-nodes c = ?
+slice-aggregate-make-nodes c = search needs
 
--- src/keyed.rt:238:9
 mul-make-nodes : tie.Need-mul-make-nodes
-mul-make-nodes c = ?
+mul-make-nodes c = search needs
 
--- src/keyed.rt:238:9
 sub-make-nodes : tie.Need-sub-make-nodes
 sub-make-nodes c = search needs
 
--- src/keyed.rt:238:9
 part-make-nodes-start : tie.Need-part-make-nodes-start
 part-make-nodes-start c = search needs
 
--- src/keyed.rt:238:9
 part-make-nodes-end : tie.Need-part-make-nodes-end
-part-make-nodes-end c = ?
+part-make-nodes-end c = search needs
 
--- src/keyed.rt:239:9
 mul-make-nodes-2 : tie.Need-mul-make-nodes-2
-mul-make-nodes-2 c = ?
+mul-make-nodes-2 c = search needs
 
--- src/keyed.rt:239:9
 sub-make-nodes-2 : tie.Need-sub-make-nodes-2
 sub-make-nodes-2 c = search needs
 
--- src/keyed.rt:239:9
 part-make-nodes-start-2 : tie.Need-part-make-nodes-start-2
 part-make-nodes-start-2 c = search needs
 
--- src/keyed.rt:239:9
 part-make-nodes-end-2 : tie.Need-part-make-nodes-end-2
-part-make-nodes-end-2 c = ?
+part-make-nodes-end-2 c = search needs
 
--- src/keyed.rt:236:5
 make-nodes-requires : tie.Need-make-nodes-requires
-make-nodes-requires c κs = ?
+make-nodes-requires c κs = search needs
 
--- src/keyed.rt:247:15
 sub-own : tie.Need-sub-own
-sub-own c = ?
+sub-own c = search needs
 
--- src/keyed.rt:248:16
 least-requires : tie.Need-least-requires
 least-requires c κs = search needs
 
--- src/keyed.rt:248:16
 sub-made : tie.Need-sub-made
-sub-made c = ?
+sub-made c = search needs
 
--- src/keyed.rt:249:17
 sub-turns : tie.Need-sub-turns
-sub-turns c = ?
+sub-turns c = search needs
 
--- src/keyed.rt:253:9
 width-of-requires : tie.Need-width-of-requires
 width-of-requires c κs = search needs
 
--- src/keyed.rt:254:9
 shl-turn-nodes : tie.Need-shl-turn-nodes
-shl-turn-nodes c = ?
+shl-turn-nodes c = search needs
 
--- src/keyed.rt:257:9
 mul-turn-nodes : tie.Need-mul-turn-nodes
-mul-turn-nodes c = ?
+mul-turn-nodes c = search needs
 
--- src/keyed.rt:257:9
 sub-turn-nodes : tie.Need-sub-turn-nodes
 sub-turn-nodes c = search needs
 
--- src/keyed.rt:257:9
 part-turn-nodes-start : tie.Need-part-turn-nodes-start
 part-turn-nodes-start c = search needs
 
--- src/keyed.rt:257:9
 part-turn-nodes-end : tie.Need-part-turn-nodes-end
-part-turn-nodes-end c = ?
+part-turn-nodes-end c = search needs
 
--- src/keyed.rt:250:5
 turn-nodes-requires : tie.Need-turn-nodes-requires
-turn-nodes-requires c κs = ?
+turn-nodes-requires c κs = search needs
 
--- src/keyed.rt:265:9
 same-length : tie.Need-same-length
 same-length c = search needs
 
--- src/keyed.rt:265:9
 same-length-2 : tie.Need-same-length-2
 same-length-2 c = search needs
 
--- src/keyed.rt:265:9
 returns : tie.Need-returns
-returns c = ?
+returns c = search needs
 
--- src/keyed.rt:267:52
 slice-relend-prefix-give-answer : tie.Need-slice-relend-prefix-give-answer
-slice-relend-prefix-give-answer c = ?
+slice-relend-prefix-give-answer c = search needs
 
--- src/keyed.rt:267:52
 slice-aggregate-give-answer : tie.Need-slice-aggregate-give-answer
-slice-aggregate-give-answer c = ?
+slice-aggregate-give-answer c = search needs
 
--- src/keyed.rt:267:5
 give-answer-requires : tie.Need-give-answer-requires
-give-answer-requires c κs = ?
+give-answer-requires c κs = search needs
 
--- src/keyed.rt:213:1
 same-length-3 : tie.Need-same-length-3
 same-length-3 c = search needs
 
--- src/keyed.rt:213:1
 same-length-4 : tie.Need-same-length-4
 same-length-4 c = search needs
 
--- src/keyed.rt:213:1
 same-length-5 : tie.Need-same-length-5
 same-length-5 c = search needs
 
--- src/keyed.rt:213:1
 returns-2 : tie.Need-returns-2
-returns-2 c = ?
+returns-2 c = search needs
 
 pub run-giants-spec : {M : Type 1} → statement M
 run-giants-spec =

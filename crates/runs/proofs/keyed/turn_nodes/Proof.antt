@@ -1,46 +1,37 @@
+-- `runs::keyed::turn_nodes` meets its contract. Assumes nothing.
+use native.Mathlib.Omega.{arith}
+use borrow.Author.Needs.{needs}
+use Rattle.runs.proofs.Running.{turned-own, turned-powers}
 use borrow.Author.Needs.{needs}
 use Rattle.runs.proofs.keyed.turn_nodes.Statement.{statement}
 use Rattle.runs.proofs.keyed.turn_nodes.Tie as tie
-use Rattle.runs.proofs.keyed.turn_nodes.Reads as reads
-use Rattle.runs.proofs.keyed.turn_nodes.Lts as lts
-use Rattle.runs.proofs.giants.join_pairs.Reads as join-pairs-reads
-use Rattle.runs.proofs.giants.turn_giants.Reads as turn-giants-reads
 
--- src/keyed.rt:193:21
 sub-start : tie.Need-sub-start
-sub-start c = ?
+sub-start c = c .before .before .before .before .before .before .pre .own (c .if1 .taken) .0
 
--- src/keyed.rt:194:9
 turn-giants-requires : tie.Need-turn-giants-requires
-turn-giants-requires c κs = ?
+turn-giants-requires c κs = c .before .before .before .before .before .before .before .before .pre .own (c .before .before .if1 .taken) .1
 
--- src/keyed.rt:195:9
 same-length : tie.Need-same-length
 same-length c = search needs
 
--- src/keyed.rt:195:9
 same-length-2 : tie.Need-same-length-2
 same-length-2 c = search needs
 
--- src/keyed.rt:195:9
 returns : tie.Need-returns
-returns c = ?
+returns c = turned-own _ _ _ _ _ _ _ (c .before .before .before .before .before .before .before .if1 .taken) (c .before .before .before .before .turn-giants .ensures)
 
--- src/keyed.rt:197:5
 join-pairs-requires : tie.Need-join-pairs-requires
-join-pairs-requires c κs = ?
+join-pairs-requires c κs = (c .before .before .before .before .before .before .before .before .pre .powers (omega arith), c .before .before .before .before .before .before .before .before .pre .log-room)
 
--- src/keyed.rt:175:1
 same-length-3 : tie.Need-same-length-3
 same-length-3 c = search needs
 
--- src/keyed.rt:175:1
 same-length-4 : tie.Need-same-length-4
 same-length-4 c = search needs
 
--- src/keyed.rt:175:1
 returns-2 : tie.Need-returns-2
-returns-2 c = ?
+returns-2 c = turned-powers _ _ _ _ _ _ _ (c .before .before .before .before .before .before .before .if1 .left) (c .before .before .before .before .join-pairs .ensures)
 
 pub turn-nodes-spec : {M : Type 1} → statement M
 turn-nodes-spec =
