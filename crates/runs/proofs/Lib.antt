@@ -20,3 +20,4 @@ pub mod FromPairs
 pub mod LookingOver
 pub mod PlanWriting
 pub mod Running
+pub mod Machining

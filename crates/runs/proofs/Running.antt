@@ -25,7 +25,9 @@ use Rattle.linear_transformation.specs.Closures.{nonzeros}
 use Rattle.linear_transformation.specs.Schedules.{planBabies, planGiants, planWords, planTree, planSwitches}
 use Rattle.linear_transformation.specs.Stored.{stepOf, planLevels, planRecords}
 use Rattle.linear_transformation.specs.Laws.Plans.{width-positive, words-length}
+use Rattle.linear_transformation.specs.Laws.Runs.{planned-length, giants-few}
 use Rattle.linear_transformation.specs.Laws.Stored.{tree-bits-low}
+use Rattle.diagonals.specs.Laws.Maps.{count-low}
 use Rattle.runs.specs.declared.keyed.Survey.{Survey}
 use Rattle.runs.specs.Switches.{Switch, rotationOf, babySchedule, giantSchedule}
 use Rattle.runs.specs.Machines.{nodeWords, answerOf}
@@ -34,15 +36,39 @@ use Rattle.runs.specs.Laws.Caches.{cache-room}
 use Rattle.runs.specs.Laws.NodeRuns.{map-planned}
 use Rattle.runs.specs.Laws.PassSchedules.{baby-count, giant-count}
 use Rattle.runs.specs.Laws.PlanWords.{babies-read, giants-read, pairs-read}
-use Rattle.runs.specs.Laws.Schedules.{plan-babies-front}
+use Rattle.runs.specs.Laws.Schedules.{plan-babies-front, plan-babies-rise, plan-babies-low}
 use Rattle.runs.specs.Steps.Keyed.{nodesBy}
 use Rattle.runs.specs.Steps.Giants.{GiantsTurned, PairsJoined}
 use Rattle.runs.specs.Steps.Nodes.{NodesAsked, NodesMade}
-use Rattle.runs.specs.Steps.Surveys.{takes, bitsBy}
+use Rattle.runs.specs.Steps.Surveys.{takes, bitsBy, Taken, Sized}
 use Rattle.runs.specs.Steps.Runs.{AnswerAsked, answerBy, switchBy, TurningAsked, NodesTurned, RunAsked, turnedNodes, GiantsLeft}
 use Rattle.runs.proofs.FromNodes.{nodes-of, nodes-made}
 use Rattle.runs.proofs.FromGiants as Own
 use Rattle.runs.proofs.FromPairs as Powers
+
+-- ---- sizes
+
+-- the numbers of an accepted map's plan
+pub sized : {strategy : LinearTransformationStrategy} {survey : Survey} {count : ℕ} {pairs values input : List ℕ} (slots : ℕ) → Taken slots count pairs values input strategy → survey ≡ takes slots strategy (offsetsOf (view count pairs values)) count → Sized survey slots
+unfolding takes
+sized {strategy} {survey} {count} {pairs} {values} {input} slots t e =
+    let ks = offsetsOf (view count pairs values) in
+    let bs : Planned slots 1 (planBabies slots strategy ks) = record { rises = plan-babies-rise slots strategy ks; low = plan-babies-low slots strategy ks; positive = omega arith } in
+    let r = t .range in
+    rw e
+    (record {
+      slots-low = r .high;
+      some = omega (arith, ap length (plan-babies-front slots (r .high) (r .low) strategy ks));
+      babies-low = omega (arith, planned-length bs, r .high);
+      giants-low = omega (arith, giants-few slots (widthOf strategy) ks, r .high);
+      diagonals-low = omega (arith, count-low (t .formed), r .high);
+    })
+
+-- there are at most 16 levels
+few-bits : (slots : ℕ) (strategy : LinearTransformationStrategy) (ks : List ℕ) → slots ≤ 65536 → 0 < widthOf strategy → bitsBy slots strategy ks ≤ 16
+few-bits slots (Bsgs width) ks l w = omega arith
+few-bits slots (BsgsPowersOfTwo width) ks l w = tree-bits-low slots width ks w l
+few-bits slots Direct ks l w = omega arith
 
 -- ---- by the step
 
@@ -54,7 +80,7 @@ turned-powers zero turns width size made slots logged h t = absurd (h refl)
 turned-powers (suc c) turns width size made slots logged h t = record { turned = t .joined-all; logs = t .logs }
 
 -- the first n, or all where there are fewer
-take-least : {A : Type 0} (xs : List A) (n k : ℕ) → k ≡ min n (length xs) → take k xs ≡ take n xs
+pub take-least : {A : Type 0} (xs : List A) (n k : ℕ) → k ≡ min n (length xs) → take k xs ≡ take n xs
 take-least xs n k e = by (decLt n (length xs))
   where
     by : Dec (n < length xs) → take k xs ≡ take n xs
@@ -105,7 +131,7 @@ module _ {strategy : LinearTransformationStrategy} {survey : Survey} {bits : ℕ
   pub own-switches : survey .babies - 1 ≡ length (babySchedule slots strategy ks)
   own-switches = own-are ∙ sym (baby-count slots strategy ks)
 
-  all-switches : survey .switches ≡ survey .babies - 1 + length (giantSchedule slots strategy ks)
+  pub all-switches : survey .switches ≡ survey .babies - 1 + length (giantSchedule slots strategy ks)
   unfolding planSwitches
   all-switches = omega (arith, switches-are, own-are, giant-count slots strategy ks)
 
@@ -114,6 +140,12 @@ module _ {strategy : LinearTransformationStrategy} {survey : Survey} {bits : ℕ
 
   pub own-low : survey .babies - 1 ≤ survey .switches
   own-low = omega (arith, all-switches)
+
+  pub sizes : Sized survey slots
+  sizes = sized slots (a .taken) (a .survey-is)
+
+  pub bits-low : bits < 32
+  bits-low = omega (arith, a .bits-are, few-bits slots strategy ks (range .high) wide)
 
   -- ---- the plan's words
 
@@ -167,8 +199,8 @@ module _ {strategy : LinearTransformationStrategy} {survey : Survey} {bits : ℕ
       turns-are : turns ≡ length (giantSchedule slots strategy ks)
       turns-are = omega (arith, all-switches)
 
-      count-low : count ≤ length (giantSchedule slots strategy ks)
-      count-low = omega (arith, all-switches)
+      count-fits : count ≤ length (giantSchedule slots strategy ks)
+      count-fits = omega (arith, all-switches)
 
       made-room : length (planGiants slots strategy ks) * slots ≤ length made
       made-room = omega (arith, roomy, len)
@@ -188,10 +220,10 @@ module _ {strategy : LinearTransformationStrategy} {survey : Survey} {bits : ℕ
           record {
             own = λ s.
                 let q : stepOf slots strategy ks ≡ 0 = sym step-is ∙ s in
-                rw (giants-part, turns-are) (Own.giants-fewer slots strategy ks q, Own.turns-of slots strategy ks q count count-low made log (survey .babies - 1) made-room log-room);
+                rw (giants-part, turns-are) (Own.giants-fewer slots strategy ks q, Own.turns-of slots strategy ks q count count-fits made log (survey .babies - 1) made-room log-room);
             powers = λ s.
                 let q : 1 ≤ stepOf slots strategy ks = rw step-is at s in
-                rw (giants-part, w) (Powers.pairs-of slots strategy ks q levels records (a .old-levels) (a .old-records) size (a .levels-are) (a .records-are) (size-is q) count count-low range (a .taken .width) distinct (length made) made-room);
+                rw (giants-part, w) (Powers.pairs-of slots strategy ks q levels records (a .old-levels) (a .old-records) size (a .levels-are) (a .records-are) (size-is q) count count-fits range (a .taken .width) distinct (length made) made-room);
             log-room = log-room;
           }
 
@@ -199,10 +231,10 @@ module _ {strategy : LinearTransformationStrategy} {survey : Survey} {bits : ℕ
       scheduled = take-least (giantSchedule slots strategy ks) (n - (survey .babies - 1)) count (omega (arith, all-switches))
 
       switches-by : (step : ℕ) → step ≡ stepOf slots strategy ks → tabulate count (switchBy step turns width size slots gs levels records) ≡ take count (giantSchedule slots strategy ks)
-      switches-by zero q = rw (giants-part, turns-are) (Own.giants-by slots strategy ks (sym q) count count-low)
+      switches-by zero q = rw (giants-part, turns-are) (Own.giants-by slots strategy ks (sym q) count count-fits)
       switches-by (suc c) q =
           let s : 1 ≤ stepOf slots strategy ks = omega (arith, q) in
-          rw (giants-part, w) (Powers.pairs-by slots strategy ks s levels records (a .old-levels) (a .old-records) size (a .levels-are) (a .records-are) (size-is s) count count-low)
+          rw (giants-part, w) (Powers.pairs-by slots strategy ks s levels records (a .old-levels) (a .old-records) size (a .levels-are) (a .records-are) (size-is s) count count-fits)
 
       logged-by : (step : ℕ) → step ≡ stepOf slots strategy ks → tabulate count (λ q. rotationOf (switchBy step turns width size slots gs levels records q)) ≡ map rotationOf (take count (giantSchedule slots strategy ks))
       logged-by step q = sym (map-tabulate rotationOf count (switchBy step turns width size slots gs levels records)) ∙ ap (map rotationOf) (switches-by step q)

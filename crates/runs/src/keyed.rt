@@ -122,7 +122,7 @@ fn room_refusal(
     if plan < survey.babies + 3 * survey.giants + survey.diagonals {
         return 12;
     }
-    if records < 2 * survey.pairs {
+    if records / 2 < survey.pairs {
         return 12;
     }
     if cache < (survey.babies - 1) * slots {

@@ -73,8 +73,6 @@ pub record Sized (r : Survey) (slots : ℕ) : Type 0 where
   pub babies-low : r .babies ≤ 65536
   pub giants-low : r .giants ≤ 65536
   pub diagonals-low : r .diagonals ≤ 65536
-  pub pairs-low : r .pairs ≤ 1048576
-  pub switches-low : r .switches ≤ 2097152
 
 abbrev pub surveyRoom : Survey → ℕ → ℕ → ℕ → ℕ → ℕ → ℕ → ℕ → List (Bool × ℕ)
 surveyRoom r slots plan records cache nodes log out =
