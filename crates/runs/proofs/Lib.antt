@@ -21,3 +21,4 @@ pub mod LookingOver
 pub mod PlanWriting
 pub mod Running
 pub mod Machining
+pub mod KeyedRunning
