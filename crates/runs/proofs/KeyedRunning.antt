@@ -86,6 +86,9 @@ module _ {slots count : ℕ} {pairs values input : List ℕ} {strategy : LinearT
     pub few : count ≤ 65536
     few = omega (arith, count-low (taken .formed), taken .range .high)
 
+    pub offsets-room : length before ≡ 65536 → count ≤ length after
+    offsets-room e = omega (arith, few, s .len)
+
     pub offsets-are : take count after ≡ ks
     unfolding inFront
     offsets-are = rw (s .listed z) (take-at ks (drop (length ks) before) count (ap length (offsets-view count pairs values) ∙ length-tabulate count (offsetAt pairs)))

@@ -1,101 +1,81 @@
+-- `runs::keyed::evaluate_keyed` meets its contract. Assumes nothing.
+use native.Mathlib.Omega.{arith}
+use borrow.Author.Needs.{needs}
+use Prim.Native.Nat.{ℕ}
+use mathlib.Core.Path.{refl, sym}
+use lib.ListN.{length-replicate}
+use lib.Seq.{length-take-le}
+use Rattle.runs.specs.Keyed.{lent}
+use Rattle.runs.proofs.KeyedRunning.{survey-refused, sizes, room-refused, few, offsets-room, plan-asked, run-asked, run-left}
 use borrow.Author.Needs.{needs}
 use Rattle.runs.proofs.keyed.evaluate_keyed.Statement.{statement}
 use Rattle.runs.proofs.keyed.evaluate_keyed.Tie as tie
-use Rattle.runs.proofs.keyed.evaluate_keyed.Reads as reads
-use Rattle.runs.proofs.keyed.evaluate_keyed.Lts as lts
-use Rattle.ring.proofs.least.Reads as least-reads
-use Rattle.runs.proofs.keyed.look_over.Reads as look-over-reads
-use Rattle.runs.proofs.keyed.room_refusal.Reads as room-refusal-reads
-use Rattle.runs.proofs.keyed.run_plan.Reads as run-plan-reads
-use Rattle.runs.proofs.keyed.write_plan.Reads as write-plan-reads
 
--- src/keyed.rt:348:9
 slice-aggregate-look-over : tie.Need-slice-aggregate-look-over
 slice-aggregate-look-over c = search needs
 
--- src/keyed.rt:340:9
 look-over-requires : tie.Need-look-over-requires
 look-over-requires c κs = search needs
 
--- src/keyed.rt:352:9
 returns : tie.Need-returns
-returns c = ?
+returns c = survey-refused (c .before .before .look-over .ensures) _ _ (c .if1 .taken)
 
--- src/keyed.rt:354:9
 room-refusal-requires : tie.Need-room-refusal-requires
-room-refusal-requires c κs = ?
+room-refusal-requires c κs = sizes (c .before .before .look-over .ensures) (c .before .before .before .before .before .before .before .before .before .before .before .before .before .before .args .n) (lent (c .before .before .before .before .before .before .before .before .before .before .before .before .before .before .args .plan .now) (c .before .before .before .before .before .before .before .before .before .before .before .before .before .before .args .records .now) (c .before .before .before .before .before .before .before .before .before .before .before .before .before .before .args .cache .now) (c .before .before .before .before .before .before .before .before .before .before .before .before .before .before .args .nodes .now) (c .before .before .before .before .before .before .before .before .before .before .before .before .before .before .args .log .now) (c .before .before .before .before .before .before .before .before .before .before .before .before .before .before .args .out .now)) (c .if1 .left)
 
--- src/keyed.rt:365:9
 returns-2 : tie.Need-returns-2
-returns-2 c = ?
+returns-2 c = room-refused (c .before .before .before .before .look-over .ensures) _ _ (c .before .before .if1 .left) (c .before .room-refusal .ensures) (c .if2 .taken)
 
--- src/keyed.rt:369:9
 array-share-prefix-offsets : tie.Need-array-share-prefix-offsets
-array-share-prefix-offsets c = ?
+array-share-prefix-offsets c = offsets-room (c .before .before .before .before .look-over .ensures) (c .before .before .before .before .before .before .before .before .before .before .before .before .before .before .before .before .args .n) (lent (c .before .before .before .before .before .before .before .before .before .before .before .before .before .before .before .before .args .plan .now) (c .before .before .before .before .before .before .before .before .before .before .before .before .before .before .before .before .args .records .now) (c .before .before .before .before .before .before .before .before .before .before .before .before .before .before .before .before .args .cache .now) (c .before .before .before .before .before .before .before .before .before .before .before .before .before .before .before .before .args .nodes .now) (c .before .before .before .before .before .before .before .before .before .before .before .before .before .before .before .before .args .log .now) (c .before .before .before .before .before .before .before .before .before .before .before .before .before .before .before .before .args .out .now)) (c .before .before .if1 .left) (length-replicate {A = ℕ} 65536 0)
 
--- src/keyed.rt:369:9
 slice-aggregate-write-plan : tie.Need-slice-aggregate-write-plan
-slice-aggregate-write-plan c = ?
+slice-aggregate-write-plan c = sym (length-take-le _ _ (offsets-room (c .before .before .before .before .before .look-over .ensures) (c .before .before .before .before .before .before .before .before .before .before .before .before .before .before .before .before .before .args .n) (lent (c .before .before .before .before .before .before .before .before .before .before .before .before .before .before .before .before .before .args .plan .now) (c .before .before .before .before .before .before .before .before .before .before .before .before .before .before .before .before .before .args .records .now) (c .before .before .before .before .before .before .before .before .before .before .before .before .before .before .before .before .before .args .cache .now) (c .before .before .before .before .before .before .before .before .before .before .before .before .before .before .before .before .before .args .nodes .now) (c .before .before .before .before .before .before .before .before .before .before .before .before .before .before .before .before .before .args .log .now) (c .before .before .before .before .before .before .before .before .before .before .before .before .before .before .before .before .before .args .out .now)) (c .before .before .before .if1 .left) (length-replicate {A = ℕ} 65536 0)))
 
--- src/keyed.rt:374:9
 slice-aggregate-write-plan-2 : tie.Need-slice-aggregate-write-plan-2
 slice-aggregate-write-plan-2 c = search needs
 
--- src/keyed.rt:368:9
 write-plan-requires : tie.Need-write-plan-requires
-write-plan-requires c κs = ?
+write-plan-requires c κs = plan-asked (c .before .before .before .before .before .before .before .before .look-over .ensures) (c .before .before .before .before .before .before .before .before .before .before .before .before .before .before .before .before .before .before .before .before .args .n) (lent (c .before .before .before .before .before .before .before .before .before .before .before .before .before .before .before .before .before .before .before .before .args .plan .now) (c .before .before .before .before .before .before .before .before .before .before .before .before .before .before .before .before .before .before .before .before .args .records .now) (c .before .before .before .before .before .before .before .before .before .before .before .before .before .before .before .before .before .before .before .before .args .cache .now) (c .before .before .before .before .before .before .before .before .before .before .before .before .before .before .before .before .before .before .before .before .args .nodes .now) (c .before .before .before .before .before .before .before .before .before .before .before .before .before .before .before .before .before .before .before .before .args .log .now) (c .before .before .before .before .before .before .before .before .before .before .before .before .before .before .before .before .before .before .before .before .args .out .now)) (c .before .before .before .before .before .before .if1 .left) (c .before .before .before .before .before .room-refusal .ensures) (c .before .before .before .before .if2 .left) refl
 
--- src/keyed.rt:386:9
 slice-aggregate-run-plan : tie.Need-slice-aggregate-run-plan
 slice-aggregate-run-plan c = search needs
 
--- src/keyed.rt:377:5
 run-plan-requires : tie.Need-run-plan-requires
-run-plan-requires c κs = ?
+run-plan-requires c κs = run-asked (c .before .before .before .before .before .before .before .before .before .before .before .before .before .before .before .before .before .before .before .before .before .look-over .ensures) (c .before .before .before .before .before .before .before .before .before .before .before .before .before .before .before .before .before .before .before .before .before .before .before .before .before .before .before .before .before .before .before .before .before .args .n) (lent (c .before .before .before .before .before .before .before .before .before .before .before .before .before .before .before .before .before .before .before .before .before .before .before .before .before .before .before .before .before .before .before .before .before .args .plan .now) (c .before .before .before .before .before .before .before .before .before .before .before .before .before .before .before .before .before .before .before .before .before .before .before .before .before .before .before .before .before .before .before .before .before .args .records .now) (c .before .before .before .before .before .before .before .before .before .before .before .before .before .before .before .before .before .before .before .before .before .before .before .before .before .before .before .before .before .before .before .before .before .args .cache .now) (c .before .before .before .before .before .before .before .before .before .before .before .before .before .before .before .before .before .before .before .before .before .before .before .before .before .before .before .before .before .before .before .before .before .args .nodes .now) (c .before .before .before .before .before .before .before .before .before .before .before .before .before .before .before .before .before .before .before .before .before .before .before .before .before .before .before .before .before .before .before .before .before .args .log .now) (c .before .before .before .before .before .before .before .before .before .before .before .before .before .before .before .before .before .before .before .before .before .before .before .before .before .before .before .before .before .before .before .before .before .args .out .now)) (c .before .before .before .before .before .before .before .before .before .before .before .before .before .before .before .before .before .before .before .if1 .left) (c .before .before .before .before .before .before .before .before .before .before .before .before .before .before .before .before .before .before .room-refusal .ensures) (c .before .before .before .before .before .before .before .before .before .before .before .before .before .before .before .before .before .if2 .left) (c .before .before .before .before .before .before .before .before .before .before .before .before .write-plan .ensures) (c .before .before .before .before .before .before .before .before .before .before .before .before .write-plan .kept .1 .1 .1 .0)
 
--- src/keyed.rt:394:19
 least-requires : tie.Need-least-requires
 least-requires c κs = search needs
 
--- src/keyed.rt:396:17
 cast-t54 : tie.Need-cast-t54
-cast-t54 c = ?
+cast-t54 c = omega (arith, sizes (c .before .before .before .before .before .before .before .before .before .before .before .before .before .before .before .before .before .before .before .before .before .before .before .before .before .before .before .before .before .before .before .before .before .look-over .ensures) (c .before .before .before .before .before .before .before .before .before .before .before .before .before .before .before .before .before .before .before .before .before .before .before .before .before .before .before .before .before .before .before .before .before .before .before .before .before .before .before .before .before .before .before .before .before .args .n) (lent (c .before .before .before .before .before .before .before .before .before .before .before .before .before .before .before .before .before .before .before .before .before .before .before .before .before .before .before .before .before .before .before .before .before .before .before .before .before .before .before .before .before .before .before .before .before .args .plan .now) (c .before .before .before .before .before .before .before .before .before .before .before .before .before .before .before .before .before .before .before .before .before .before .before .before .before .before .before .before .before .before .before .before .before .before .before .before .before .before .before .before .before .before .before .before .before .args .records .now) (c .before .before .before .before .before .before .before .before .before .before .before .before .before .before .before .before .before .before .before .before .before .before .before .before .before .before .before .before .before .before .before .before .before .before .before .before .before .before .before .before .before .before .before .before .before .args .cache .now) (c .before .before .before .before .before .before .before .before .before .before .before .before .before .before .before .before .before .before .before .before .before .before .before .before .before .before .before .before .before .before .before .before .before .before .before .before .before .before .before .before .before .before .before .before .before .args .nodes .now) (c .before .before .before .before .before .before .before .before .before .before .before .before .before .before .before .before .before .before .before .before .before .before .before .before .before .before .before .before .before .before .before .before .before .before .before .before .before .before .before .before .before .before .before .before .before .args .log .now) (c .before .before .before .before .before .before .before .before .before .before .before .before .before .before .before .before .before .before .before .before .before .before .before .before .before .before .before .before .before .before .before .before .before .before .before .before .before .before .before .before .before .before .before .before .before .args .out .now)) (c .before .before .before .before .before .before .before .before .before .before .before .before .before .before .before .before .before .before .before .before .before .before .before .before .before .before .before .before .before .before .before .if1 .left) .babies-low)
 
--- src/keyed.rt:397:17
 cast-t55 : tie.Need-cast-t55
-cast-t55 c = ?
+cast-t55 c = omega (arith, sizes (c .before .before .before .before .before .before .before .before .before .before .before .before .before .before .before .before .before .before .before .before .before .before .before .before .before .before .before .before .before .before .before .before .before .before .look-over .ensures) (c .before .before .before .before .before .before .before .before .before .before .before .before .before .before .before .before .before .before .before .before .before .before .before .before .before .before .before .before .before .before .before .before .before .before .before .before .before .before .before .before .before .before .before .before .before .before .args .n) (lent (c .before .before .before .before .before .before .before .before .before .before .before .before .before .before .before .before .before .before .before .before .before .before .before .before .before .before .before .before .before .before .before .before .before .before .before .before .before .before .before .before .before .before .before .before .before .before .args .plan .now) (c .before .before .before .before .before .before .before .before .before .before .before .before .before .before .before .before .before .before .before .before .before .before .before .before .before .before .before .before .before .before .before .before .before .before .before .before .before .before .before .before .before .before .before .before .before .before .args .records .now) (c .before .before .before .before .before .before .before .before .before .before .before .before .before .before .before .before .before .before .before .before .before .before .before .before .before .before .before .before .before .before .before .before .before .before .before .before .before .before .before .before .before .before .before .before .before .before .args .cache .now) (c .before .before .before .before .before .before .before .before .before .before .before .before .before .before .before .before .before .before .before .before .before .before .before .before .before .before .before .before .before .before .before .before .before .before .before .before .before .before .before .before .before .before .before .before .before .before .args .nodes .now) (c .before .before .before .before .before .before .before .before .before .before .before .before .before .before .before .before .before .before .before .before .before .before .before .before .before .before .before .before .before .before .before .before .before .before .before .before .before .before .before .before .before .before .before .before .before .before .args .log .now) (c .before .before .before .before .before .before .before .before .before .before .before .before .before .before .before .before .before .before .before .before .before .before .before .before .before .before .before .before .before .before .before .before .before .before .before .before .before .before .before .before .before .before .before .before .before .before .args .out .now)) (c .before .before .before .before .before .before .before .before .before .before .before .before .before .before .before .before .before .before .before .before .before .before .before .before .before .before .before .before .before .before .before .before .if1 .left) .giants-low)
 
--- src/keyed.rt:398:20
 cast-t56 : tie.Need-cast-t56
-cast-t56 c = ?
+cast-t56 c = omega (arith, few (c .before .before .before .before .before .before .before .before .before .before .before .before .before .before .before .before .before .before .before .before .before .before .before .before .before .before .before .before .before .before .before .before .before .before .look-over .ensures) (c .before .before .before .before .before .before .before .before .before .before .before .before .before .before .before .before .before .before .before .before .before .before .before .before .before .before .before .before .before .before .before .before .before .before .before .before .before .before .before .before .before .before .before .before .before .before .args .n) (lent (c .before .before .before .before .before .before .before .before .before .before .before .before .before .before .before .before .before .before .before .before .before .before .before .before .before .before .before .before .before .before .before .before .before .before .before .before .before .before .before .before .before .before .before .before .before .before .args .plan .now) (c .before .before .before .before .before .before .before .before .before .before .before .before .before .before .before .before .before .before .before .before .before .before .before .before .before .before .before .before .before .before .before .before .before .before .before .before .before .before .before .before .before .before .before .before .before .before .args .records .now) (c .before .before .before .before .before .before .before .before .before .before .before .before .before .before .before .before .before .before .before .before .before .before .before .before .before .before .before .before .before .before .before .before .before .before .before .before .before .before .before .before .before .before .before .before .before .before .args .cache .now) (c .before .before .before .before .before .before .before .before .before .before .before .before .before .before .before .before .before .before .before .before .before .before .before .before .before .before .before .before .before .before .before .before .before .before .before .before .before .before .before .before .before .before .before .before .before .before .args .nodes .now) (c .before .before .before .before .before .before .before .before .before .before .before .before .before .before .before .before .before .before .before .before .before .before .before .before .before .before .before .before .before .before .before .before .before .before .before .before .before .before .before .before .before .before .before .before .before .before .args .log .now) (c .before .before .before .before .before .before .before .before .before .before .before .before .before .before .before .before .before .before .before .before .before .before .before .before .before .before .before .before .before .before .before .before .before .before .before .before .before .before .before .before .before .before .before .before .before .before .args .out .now)) (c .before .before .before .before .before .before .before .before .before .before .before .before .before .before .before .before .before .before .before .before .before .before .before .before .before .before .before .before .before .before .before .before .if1 .left))
 
--- src/keyed.rt:321:1
 same-length : tie.Need-same-length
-same-length c = ?
+same-length c = c .before .before .before .before .before .before .before .before .before .before .before .before .before .before .before .before .before .before .before .before .before .before .before .before .before .write-plan .kept .1 .1 .1 .0
 
--- src/keyed.rt:321:1
 same-length-2 : tie.Need-same-length-2
 same-length-2 c = search needs
 
--- src/keyed.rt:321:1
 same-length-3 : tie.Need-same-length-3
 same-length-3 c = search needs
 
--- src/keyed.rt:321:1
 same-length-4 : tie.Need-same-length-4
 same-length-4 c = search needs
 
--- src/keyed.rt:321:1
 same-length-5 : tie.Need-same-length-5
 same-length-5 c = search needs
 
--- src/keyed.rt:321:1
 same-length-6 : tie.Need-same-length-6
 same-length-6 c = search needs
 
--- src/keyed.rt:321:1
 returns-3 : tie.Need-returns-3
-returns-3 c = ?
+returns-3 c = run-left (c .before .before .before .before .before .before .before .before .before .before .before .before .before .before .before .before .before .before .before .before .before .before .before .before .before .before .before .before .before .before .before .before .before .before .look-over .ensures) (c .before .before .before .before .before .before .before .before .before .before .before .before .before .before .before .before .before .before .before .before .before .before .before .before .before .before .before .before .before .before .before .before .before .before .before .before .before .before .before .before .before .before .before .before .before .before .args .n) (lent (c .before .before .before .before .before .before .before .before .before .before .before .before .before .before .before .before .before .before .before .before .before .before .before .before .before .before .before .before .before .before .before .before .before .before .before .before .before .before .before .before .before .before .before .before .before .before .args .plan .now) (c .before .before .before .before .before .before .before .before .before .before .before .before .before .before .before .before .before .before .before .before .before .before .before .before .before .before .before .before .before .before .before .before .before .before .before .before .before .before .before .before .before .before .before .before .before .before .args .records .now) (c .before .before .before .before .before .before .before .before .before .before .before .before .before .before .before .before .before .before .before .before .before .before .before .before .before .before .before .before .before .before .before .before .before .before .before .before .before .before .before .before .before .before .before .before .before .before .args .cache .now) (c .before .before .before .before .before .before .before .before .before .before .before .before .before .before .before .before .before .before .before .before .before .before .before .before .before .before .before .before .before .before .before .before .before .before .before .before .before .before .before .before .before .before .before .before .before .before .args .nodes .now) (c .before .before .before .before .before .before .before .before .before .before .before .before .before .before .before .before .before .before .before .before .before .before .before .before .before .before .before .before .before .before .before .before .before .before .before .before .before .before .before .before .before .before .before .before .before .before .args .log .now) (c .before .before .before .before .before .before .before .before .before .before .before .before .before .before .before .before .before .before .before .before .before .before .before .before .before .before .before .before .before .before .before .before .before .before .before .before .before .before .before .before .before .before .before .before .before .before .args .out .now)) (c .before .before .before .before .before .before .before .before .before .before .before .before .before .before .before .before .before .before .before .before .before .before .before .before .before .before .before .before .before .before .before .before .if1 .left) (c .before .before .before .before .before .before .before .before .before .before .before .before .before .before .before .before .before .before .before .before .before .before .before .before .before .before .before .before .before .before .before .room-refusal .ensures) (c .before .before .before .before .before .before .before .before .before .before .before .before .before .before .before .before .before .before .before .before .before .before .before .before .before .before .before .before .before .before .if2 .left) (c .before .before .before .before .before .before .before .before .before .before .before .before .before .before .before .before .before .before .before .before .before .before .before .before .before .write-plan .ensures) (c .before .before .before .before .before .before .before .before .before .before .before .before .before .before .before .before .before .before .before .before .before .before .before .before .before .write-plan .kept .1 .1 .1 .0) (c .before .before .before .least .ensures) (c .before .before .before .before .before .before .before .before .before .before .before .before .run-plan .ensures)
 
 pub evaluate-keyed-spec : {M : Type 1} → statement M
 evaluate-keyed-spec =
