@@ -21,3 +21,4 @@ pub mod Answers
 pub mod Finished
 pub mod KeysUsed
 pub mod KeyedNumbers
+pub mod KeyedRuns
