@@ -6,3 +6,4 @@ pub mod Machines
 pub mod Keyed
 pub mod Steps
 pub mod Laws
+pub mod Demand3

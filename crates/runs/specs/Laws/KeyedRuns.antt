@@ -25,11 +25,14 @@ use Rattle.linear_transformation.specs.declared.LinearTransformationStrategy.th
 use Rattle.linear_transformation.specs.Strategies.{widthOutside}
 use Rattle.linear_transformation.specs.Plans.{widthOf}
 use Rattle.linear_transformation.specs.Stored.{isMissing}
+use Rattle.runs.specs.declared.keyed.KeyedAnswer.{KeyedAnswer}
+use Rattle.runs.specs.declared.keyed.KeyedAnswer.the-variants.{Refused}
 use Rattle.runs.specs.Plans.{mapBabies, mapGiants, mapKeys, mapSwitches}
 use Rattle.runs.specs.Switches.{rotationOf, schedule}
 use Rattle.runs.specs.Machines.{State, machine}
-use Rattle.runs.specs.Keyed.{Lent, lentState, keyedRoom, keyedRefusal}
+use Rattle.runs.specs.Keyed.{Lent, lentState, keyedRoom, keyedRefusal, keyedNumbers, keyedAnswered}
 use Rattle.runs.specs.Laws.PassSchedules.{schedule-count}
+use Rattle.runs.specs.Laws.KeyedNumbers.{keyed-first}
 use Rattle.runs.specs.Laws.Finished.{machine-last, machine-log, finished-product}
 
 -- a width that is not outside is not 0
@@ -63,6 +66,22 @@ all-twelve (c ∷ cs) h e = by (c .0) (all-twelve cs (h .1)) e
 pub only-keys : (b : Bool) (slots : ℕ) (strategy : LinearTransformationStrategy) (ds : List Diagonal) (lent : Lent) → pick b 11 (firstOf (keyedRoom slots strategy ds lent)) ≡ 11 → b ≡ true
 only-keys true slots strategy ds lent e = refl
 only-keys false slots strategy ds lent e = absurd (all-twelve (keyedRoom slots strategy ds lent) (refl, (refl, (refl, (refl, (refl, (refl, tt)))))) e)
+
+module _ (slots count : ℕ) (pairs values input : List ℕ) (strategy : LinearTransformationStrategy) (held : List ℕ) (lent : Lent) (n : ℕ)
+    (z : firstOf (mapRefusals slots count pairs values ++ (widthOutside strategy, 3) ∷ (not (eqb (length input) slots), 7) ∷ []) ≡ 0) where
+  -- where no refusal before the keys applies, the answer is refusal 11 exactly if a key is missing
+  pub missing-answered : isMissing held (mapKeys slots strategy (view count pairs values)) ≡ true
+      → keyedAnswered (keyedRefusal slots count pairs values input strategy held lent) slots strategy (view count pairs values) n ≡ Refused 11
+  unfolding keyedAnswered
+  missing-answered e = rw (then-keys slots count pairs values input strategy held lent z, e)
+
+  pub answered-missing : keyedAnswered (keyedRefusal slots count pairs values input strategy held lent) slots strategy (view count pairs values) n ≡ Refused 11
+      → isMissing held (mapKeys slots strategy (view count pairs values)) ≡ true
+  answered-missing e =
+      only-keys (isMissing held (mapKeys slots strategy (view count pairs values))) slots strategy (view count pairs values) lent
+      (sym (then-keys slots count pairs values input strategy held lent z)
+      ∙ sym (keyed-first slots strategy (view count pairs values) n (keyedRefusal slots count pairs values input strategy held lent))
+      ∙ ap (λ (a : KeyedAnswer). getD (keyedNumbers a) 0 0) e)
 
 -- what no refusal tells
 pub record Taken (slots count : ℕ) (pairs values input : List ℕ) (strategy : LinearTransformationStrategy) (held : List ℕ) (lent : Lent) : Type 0 where
