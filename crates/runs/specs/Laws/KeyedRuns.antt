@@ -9,29 +9,38 @@ use native.Mathlib.Nat.{suc-ne-zero, min-eq-left, min-eq-right}
 use native.Mathlib.Omega.{arith}
 use borrow.Author.Tests.{ltb-false, not-false, eqb-true}
 use lib.Dec.{eqb, ltb}
-use lib.ListN.{length, getD, take}
+use lib.ListN.{length, getD, take, drop, length-take, length-map}
+use lib.Seq.{take-all, take-at}
 use Rattle.ring.specs.Slots.{modulus}
 use Rattle.ring.specs.Lists.{Each, among}
 use Rattle.ring.specs.Vectors.{tabulate, inFront}
 use Rattle.ring.specs.Refusals.{pick, firstOf, Range, outside}
 use Rattle.ring.specs.Laws.Refusals.{first-later, none-of-both, none-holds, inside}
+use Rattle.ring.specs.Laws.Lists.{each-map}
 use Rattle.ring.specs.Laws.Searches.{lt-or-ge}
+use Rattle.ring.specs.Laws.Vectors.{length-tabulate, getD-tabulate, inFront-new}
 use Rattle.diagonals.specs.Maps.{Diagonal, offsetsOf, FormedMap, view}
-use Rattle.diagonals.specs.Products.{product}
+use Rattle.diagonals.specs.Products.{matrix, product, dot}
 use Rattle.diagonals.specs.Calls.{mapRefusals, mapRefusal}
+use Rattle.diagonals.specs.Laws.Matrices.{product-is-matrix}
 use Rattle.diagonals.specs.Laws.Reading.{accepted-range, accepted-formed}
 use Rattle.linear_transformation.specs.declared.LinearTransformationStrategy.{LinearTransformationStrategy}
 use Rattle.linear_transformation.specs.declared.LinearTransformationStrategy.the-variants.{Bsgs, BsgsPowersOfTwo, Direct}
 use Rattle.linear_transformation.specs.Strategies.{widthOutside}
 use Rattle.linear_transformation.specs.Plans.{widthOf}
-use Rattle.linear_transformation.specs.Stored.{isMissing}
+use Rattle.linear_transformation.specs.Schedules.{planKeys, planTree, planSwitches, NoGaps}
+use Rattle.linear_transformation.specs.Stored.{isMissing, pairCount}
+use Rattle.linear_transformation.specs.Laws.Widths.{distinct-planned}
+use Rattle.linear_transformation.specs.Laws.Switches.{switches-bound}
 use Rattle.runs.specs.declared.keyed.KeyedAnswer.{KeyedAnswer}
 use Rattle.runs.specs.declared.keyed.KeyedAnswer.the-variants.{Refused}
 use Rattle.runs.specs.Plans.{mapBabies, mapGiants, mapKeys, mapSwitches}
 use Rattle.runs.specs.Switches.{rotationOf, schedule}
 use Rattle.runs.specs.Machines.{State, machine}
 use Rattle.runs.specs.Keyed.{Lent, lentState, keyedRoom, keyedRefusal, keyedNumbers, keyedAnswered}
+use Rattle.runs.specs.Laws.Plans.{map-distinct}
 use Rattle.runs.specs.Laws.PassSchedules.{schedule-count}
+use Rattle.runs.specs.Laws.KeysUsed.{keys-are-used, held-alone}
 use Rattle.runs.specs.Laws.KeyedNumbers.{keyed-first}
 use Rattle.runs.specs.Laws.Finished.{machine-last, machine-log, finished-product}
 
@@ -122,6 +131,44 @@ module _ (slots count : ℕ) (pairs values input : List ℕ) (strategy : LinearT
         out-room = ltb-false _ _ (roomy .1 .1 .1 .1 .1 .0);
       }
 
+-- ---- a vector in front of a buffer
+
+module _ (n : ℕ) (f : ℕ → ℕ) (old : List ℕ) where
+  pub front-taken : take n (inFront (tabulate n f) old) ≡ tabulate n f
+  unfolding inFront
+  front-taken = take-at (tabulate n f) (drop (length (tabulate n f)) old) n (length-tabulate n f)
+
+  front-slot : (s : ℕ) → s < n → getD (inFront (tabulate n f) old) s 0 ≡ f s
+  front-slot s l = inFront-new (tabulate n f) old s 0 (rw (length-tabulate n f) l) ∙ getD-tabulate n f s 0 l
+
+-- ---- the rotations of the first n switches
+
+each-first : {A : Type 0} (P : A → Type 0) (n : ℕ) (xs : List A) → Each P xs → Each P (take n xs)
+each-first P zero xs h = tt
+each-first P (suc n) [] h = tt
+each-first P (suc n) (x ∷ xs) h = (h .0, each-first P n xs (h .1))
+
+module _ (slots : ℕ) (strategy : LinearTransformationStrategy) (ks : List ℕ) (n : ℕ) where
+  pub rotations-count : length (map rotationOf (take n (schedule slots strategy ks))) ≡ min n (planSwitches slots strategy ks)
+  rotations-count =
+      let ws = schedule slots strategy ks in
+      length-map (take n ws) rotationOf ∙ length-take n ws ∙ ap (min n) (schedule-count slots strategy ks)
+
+  -- all of them: each key is used
+  pub keys-made : planSwitches slots strategy ks ≤ n → Each (λ x. among x (map rotationOf (take n (schedule slots strategy ks))) ≡ true) (planKeys slots strategy ks)
+  keys-made h = rw (take-all n (schedule slots strategy ks) (rw (schedule-count slots strategy ks) h)) (keys-are-used slots strategy ks)
+
+-- the answer of an accepted run knows the offsets alone
+pub answered-alike : (slots : ℕ) (strategy : LinearTransformationStrategy) (n : ℕ) (ds es : List Diagonal) → offsetsOf ds ≡ offsetsOf es → keyedAnswered 0 slots strategy ds n ≡ keyedAnswered 0 slots strategy es n
+unfolding keyedAnswered
+answered-alike slots strategy n ds es e =
+    let l : length ds ≡ length es = sym (length-map ds (λ (d : Diagonal). d .offset)) ∙ ap length e ∙ length-map es (λ (d : Diagonal). d .offset) in
+    rw (e, l)
+
+-- with powers of two and no gap at most b switches more
+pub map-few : (slots width : ℕ) (ds : List Diagonal) → 0 < slots → 0 < width → FormedMap slots ds → NoGaps slots width (offsetsOf ds) → mapSwitches slots (BsgsPowersOfTwo width) ds ≤ mapSwitches slots (Bsgs width) ds + planTree slots width (offsetsOf ds) .bits
+map-few slots width ds p w f gaps = switches-bound (distinct-planned (map-distinct slots p ds f) width w) gaps
+
 -- ---- the machine of such a run
 
 module _ {slots count : ℕ} {pairs values input : List ℕ} {strategy : LinearTransformationStrategy} {held : List ℕ} {lent : Lent} (t : Taken slots count pairs values input strategy held lent) where
@@ -137,6 +184,15 @@ module _ {slots count : ℕ} {pairs values input : List ℕ} {strategy : LinearT
   run-product n h =
       finished-product modulus slots strategy ds (t .formed) (t .range .low) (t .range .high) (t .width) input (t .whole) (lentState lent) (t .cache-room) (t .nodes-room) n
       (rw (schedule-count slots strategy (offsetsOf ds)) h)
+
+  pub product-slot : (old : List ℕ) (s : ℕ) → s < slots → getD (inFront (tabulate slots (product modulus slots (view count pairs values) input)) old) s 0 ≡ dot modulus slots (matrix slots (view count pairs values) s) input
+  product-slot old s l = front-slot slots (product modulus slots ds input) old s l ∙ product-is-matrix modulus slots s input l ds (t .formed)
+
+  -- every switch rotates by a held key
+  pub rotations-held : (n : ℕ) → Each (λ x. among x held ≡ true) (map rotationOf (take n (schedule slots strategy (offsetsOf (view count pairs values)))))
+  rotations-held n =
+      let ws = schedule slots strategy (offsetsOf ds) in
+      each-map (λ x. among x held ≡ true) rotationOf (take n ws) (each-first (λ w. among (rotationOf w) held ≡ true) n ws (held-alone held slots strategy (offsetsOf ds) (t .held-all)))
 
 -- the machine after n switches is that after as many of them as there are
 pub machine-min : (m slots : ℕ) (strategy : LinearTransformationStrategy) (ds : List Diagonal) (input : List ℕ) (lent : State) (n : ℕ)
