@@ -15,7 +15,7 @@ use Rattle.ring.specs.Slots.{modulus}
 use Rattle.ring.specs.Lists.{Each, among}
 use Rattle.ring.specs.Vectors.{tabulate, inFront}
 use Rattle.ring.specs.Refusals.{pick, firstOf, Range, outside}
-use Rattle.ring.specs.Laws.Refusals.{first-later, none-of-both, none-holds, inside}
+use Rattle.ring.specs.Laws.Refusals.{onAccept-refused, onAccept-accepted, first-later, none-of-both, none-holds, inside}
 use Rattle.ring.specs.Laws.Lists.{each-map}
 use Rattle.ring.specs.Laws.Searches.{lt-or-ge}
 use Rattle.ring.specs.Laws.Vectors.{length-tabulate, getD-tabulate, inFront-new}
@@ -34,13 +34,14 @@ use Rattle.linear_transformation.specs.Laws.Widths.{distinct-planned}
 use Rattle.linear_transformation.specs.Laws.Switches.{switches-bound}
 use Rattle.runs.specs.declared.keyed.KeyedAnswer.{KeyedAnswer}
 use Rattle.runs.specs.declared.keyed.KeyedAnswer.the-variants.{Refused}
+use Rattle.runs.specs.Calls.{Evaluated}
 use Rattle.runs.specs.Plans.{mapBabies, mapGiants, mapKeys, mapSwitches}
 use Rattle.runs.specs.Switches.{rotationOf, schedule}
 use Rattle.runs.specs.Machines.{State, machine}
-use Rattle.runs.specs.Keyed.{Lent, lentState, keyedRoom, keyedRefusal, keyedNumbers, keyedAnswered}
+use Rattle.runs.specs.Keyed.{Lent, lentState, keyedRoom, keyedRefusal, keyedNumbers, keyedAnswered, keyedLeft, KeyedRun}
 use Rattle.runs.specs.Laws.Plans.{map-distinct}
 use Rattle.runs.specs.Laws.PassSchedules.{schedule-count}
-use Rattle.runs.specs.Laws.KeysUsed.{keys-are-used, held-alone}
+use Rattle.runs.specs.Laws.KeysUsed.{keys-are-used, missing-key, key-missing, held-alone}
 use Rattle.runs.specs.Laws.KeyedNumbers.{keyed-first}
 use Rattle.runs.specs.Laws.Finished.{machine-last, machine-log, finished-product}
 
@@ -133,10 +134,13 @@ module _ (slots count : ℕ) (pairs values input : List ℕ) (strategy : LinearT
 
 -- ---- a vector in front of a buffer
 
+pub front-words : (new old : List ℕ) (n : ℕ) → length new ≡ n → take n (inFront new old) ≡ new
+unfolding inFront
+front-words new old n e = take-at new (drop (length new) old) n e
+
 module _ (n : ℕ) (f : ℕ → ℕ) (old : List ℕ) where
   pub front-taken : take n (inFront (tabulate n f) old) ≡ tabulate n f
-  unfolding inFront
-  front-taken = take-at (tabulate n f) (drop (length (tabulate n f)) old) n (length-tabulate n f)
+  front-taken = front-words (tabulate n f) old n (length-tabulate n f)
 
   front-slot : (s : ℕ) → s < n → getD (inFront (tabulate n f) old) s 0 ≡ f s
   front-slot s l = inFront-new (tabulate n f) old s 0 (rw (length-tabulate n f) l) ∙ getD-tabulate n f s 0 l
@@ -165,9 +169,11 @@ answered-alike slots strategy n ds es e =
     let l : length ds ≡ length es = sym (length-map ds (λ (d : Diagonal). d .offset)) ∙ ap length e ∙ length-map es (λ (d : Diagonal). d .offset) in
     rw (e, l)
 
--- with powers of two and no gap at most b switches more
-pub map-few : (slots width : ℕ) (ds : List Diagonal) → 0 < slots → 0 < width → FormedMap slots ds → NoGaps slots width (offsetsOf ds) → mapSwitches slots (BsgsPowersOfTwo width) ds ≤ mapSwitches slots (Bsgs width) ds + planTree slots width (offsetsOf ds) .bits
-map-few slots width ds p w f gaps = switches-bound (distinct-planned (map-distinct slots p ds f) width w) gaps
+-- of an accepted map: with powers of two and no gap at most b switches more
+pub map-few : (slots count : ℕ) (pairs values : List ℕ) (width : ℕ) → mapRefusal slots count pairs values ≡ 0 → 0 < width → NoGaps slots width (offsetsOf (view count pairs values))
+    → mapSwitches slots (BsgsPowersOfTwo width) (view count pairs values) ≤ mapSwitches slots (Bsgs width) (view count pairs values) + planTree slots width (offsetsOf (view count pairs values)) .bits
+map-few slots count pairs values width e w gaps =
+    switches-bound (distinct-planned (map-distinct slots (accepted-range slots count pairs values e .low) (view count pairs values) (accepted-formed slots count pairs values e)) width w) gaps
 
 -- ---- the machine of such a run
 
@@ -205,3 +211,47 @@ machine-min m slots strategy ds input lent n = by (lt-or-ge n (mapSwitches slots
         let c = schedule-count slots strategy (offsetsOf ds) in
         let e : min n (mapSwitches slots strategy ds) ≡ mapSwitches slots strategy ds = min-eq-right (omega arith) in
         rw e (rw c at (machine-last m slots strategy ds input lent n (rw c h)))
+
+-- ---- the call
+
+module _ {slots count : ℕ} {pairs values input : List ℕ} {strategy : LinearTransformationStrategy} {held : List ℕ} {n : ℕ} {old new : Lent} {r : KeyedAnswer} (k : KeyedRun slots count pairs values input strategy held n old new r) where
+  module _ (ok : keyedRefusal slots count pairs values input strategy held old ≡ 0) where
+    -- an accepted one: what its arguments are, what it answers and what it leaves
+    pub run-taken : Taken slots count pairs values input strategy held old
+    run-taken = none-refused slots count pairs values input strategy held old ok
+
+    pub run-answer : r ≡ keyedAnswered 0 slots strategy (view count pairs values) n
+    run-answer = k .answer ∙ ap (λ (e : ℕ). keyedAnswered e slots strategy (view count pairs values) n) ok
+
+    pub run-left : new ≡ keyedLeft slots strategy (view count pairs values) input old n
+    run-left = k .lent ∙ onAccept-accepted _ _ _ ok
+
+    pub run-logged : new .log ≡ inFront (map rotationOf (take n (schedule slots strategy (offsetsOf (view count pairs values))))) (old .log)
+    unfolding keyedLeft
+    run-logged = ap (λ (l : Lent). l .log) run-left ∙ run-log run-taken n
+
+    pub run-finished : mapSwitches slots strategy (view count pairs values) ≤ n → new .out ≡ inFront (tabulate slots (product modulus slots (view count pairs values) input)) (old .out)
+    unfolding keyedLeft
+    run-finished h = ap (λ (l : Lent). l .out) run-left ∙ run-product run-taken n h
+
+    -- the plain run of the same map and input, by any strategy
+    pub run-plain : mapSwitches slots strategy (view count pairs values) ≤ n → {strategy' : LinearTransformationStrategy} {out out' : List ℕ} {e : ℕ} → Evaluated slots count pairs values input strategy' out out' e → e ≡ 0
+        → (take slots (new .out) ≡ take slots out') × (out ≡ old .out → out' ≡ new .out)
+    run-plain h {strategy'} {out} {out'} {e} plain z =
+        let a = run-finished h in
+        let b = plain .out ∙ onAccept-accepted e _ _ z in
+        let f = product modulus slots (view count pairs values) input in
+        (ap (take slots) a ∙ front-taken slots f (old .out) ∙ sym (ap (take slots) b ∙ front-taken slots f out), λ q. b ∙ ap (inFront (tabulate slots f)) q ∙ sym a)
+
+  -- a refused one leaves all as it was
+  pub run-refused : (keyedRefusal slots count pairs values input strategy held old ≡ 0 → ⊥) → new ≡ old
+  run-refused h = k .lent ∙ onAccept-refused _ _ _ h
+
+  -- the answer 11
+  pub run-missing : firstOf (mapRefusals slots count pairs values ++ (widthOutside strategy, 3) ∷ (not (eqb (length input) slots), 7) ∷ []) ≡ 0 → r ≡ Refused 11
+      → (key : ℕ) × ((among key (mapKeys slots strategy (view count pairs values)) ≡ true) × (among key held ≡ false))
+  run-missing z e = missing-key held (mapKeys slots strategy (view count pairs values)) (answered-missing slots count pairs values input strategy held old n z (sym (k .answer) ∙ e))
+
+  pub run-misses : firstOf (mapRefusals slots count pairs values ++ (widthOutside strategy, 3) ∷ (not (eqb (length input) slots), 7) ∷ []) ≡ 0
+      → (key : ℕ) × ((among key (mapKeys slots strategy (view count pairs values)) ≡ true) × (among key held ≡ false)) → r ≡ Refused 11
+  run-misses z m = k .answer ∙ missing-answered slots count pairs values input strategy held old n z (key-missing held (mapKeys slots strategy (view count pairs values)) (m .0) (m .1 .0) (m .1 .1))
