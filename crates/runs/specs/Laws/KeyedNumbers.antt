@@ -1,10 +1,8 @@
 -- Laws of the keyed run's answer: its numbers, and what they tell of the run.
 -- Assumes nothing.
-use Prim.Native.Nat.{ℕ, zero, suc, min, _≤_}
-use mathlib.Core.Path.{_≡_, refl, sym, ap, _∙_}
-use mathlib.Core.Bool.{Bool, true, false, true≢false}
+use Prim.Native.Nat.{ℕ, zero, suc, min}
+use mathlib.Core.Path.{_≡_, refl, ap}
 use mathlib.Core.List.{List, [], _∷_}
-use borrow.Author.Tests.{leb-true, le-leb}
 use lib.Dec.{leb}
 use lib.ListN.{length, getD}
 use Rattle.ring.specs.Refusals.{onAccept}
@@ -12,8 +10,6 @@ use Rattle.diagonals.specs.Maps.{Diagonal, offsetsOf}
 use Rattle.linear_transformation.specs.declared.LinearTransformationStrategy.{LinearTransformationStrategy}
 use Rattle.linear_transformation.specs.Trees.{flag}
 use Rattle.linear_transformation.specs.Stored.{pairCount}
-use Rattle.runs.specs.declared.keyed.KeyedAnswer.{KeyedAnswer}
-use Rattle.runs.specs.declared.keyed.KeyedAnswer.the-variants.{Refused, Is}
 use Rattle.runs.specs.Plans.{mapBabies, mapGiants, mapSwitches}
 use Rattle.runs.specs.Keyed.{keyedNumbers, keyedAnswered}
 

@@ -1,14 +1,14 @@
--- What a keyed run that is not refused tells of its arguments, and what the machine of such a run leaves.
+-- Laws of the keyed run: what an accepted one tells of its arguments, answers and leaves, and when it says key missing.
 -- Assumes nothing.
 use Prim.Native.Nat.{ℕ, zero, suc, _+_, _*_, _-_, _≤_, _<_, min}
 use mathlib.Core.Path.{_≡_, refl, sym, ap, _∙_}
 use mathlib.Core.Logic.{_⊎_, inl, inr}
-use mathlib.Core.Bool.{Bool, true, false, not, true≢false}
+use mathlib.Core.Bool.{Bool, true, false, not}
 use mathlib.Core.List.{List, [], _∷_, _++_, map}
 use native.Mathlib.Nat.{suc-ne-zero, min-eq-left, min-eq-right}
 use native.Mathlib.Omega.{arith}
 use borrow.Author.Tests.{ltb-false, not-false, eqb-true}
-use lib.Dec.{eqb, ltb}
+use lib.Dec.{eqb}
 use lib.ListN.{length, getD, take, drop, length-take, length-map}
 use lib.Seq.{take-all, take-at}
 use Rattle.ring.specs.Slots.{modulus}
@@ -29,7 +29,7 @@ use Rattle.linear_transformation.specs.declared.LinearTransformationStrategy.th
 use Rattle.linear_transformation.specs.Strategies.{widthOutside}
 use Rattle.linear_transformation.specs.Plans.{widthOf}
 use Rattle.linear_transformation.specs.Schedules.{planKeys, planTree, planSwitches, NoGaps}
-use Rattle.linear_transformation.specs.Stored.{isMissing, pairCount}
+use Rattle.linear_transformation.specs.Stored.{isMissing}
 use Rattle.linear_transformation.specs.Laws.Widths.{distinct-planned}
 use Rattle.linear_transformation.specs.Laws.Switches.{switches-bound}
 use Rattle.runs.specs.declared.keyed.KeyedAnswer.{KeyedAnswer}
@@ -46,7 +46,7 @@ use Rattle.runs.specs.Laws.KeyedNumbers.{keyed-first}
 use Rattle.runs.specs.Laws.Finished.{machine-last, machine-log, finished-product}
 
 -- a width that is not outside is not 0
-pub width-positive : (strategy : LinearTransformationStrategy) → widthOutside strategy ≡ false → 0 < widthOf strategy
+width-positive : (strategy : LinearTransformationStrategy) → widthOutside strategy ≡ false → 0 < widthOf strategy
 width-positive (Bsgs width) e = inside width e .0
 width-positive (BsgsPowersOfTwo width) e = inside width e .0
 width-positive Direct e = omega arith
@@ -60,7 +60,7 @@ module _ (slots count : ℕ) (pairs values input : List ℕ) (strategy : LinearT
     before-fits : Each (λ c. c .1 ≡ 0 → ⊥) beforeKeys
     before-fits = (suc-ne-zero 0, (suc-ne-zero 1, (suc-ne-zero 2, (suc-ne-zero 6, tt))))
 
-    pub then-keys : firstOf (mapRefusals slots count pairs values ++ (widthOutside strategy, 3) ∷ (not (eqb (length input) slots), 7) ∷ []) ≡ 0
+    then-keys : firstOf (mapRefusals slots count pairs values ++ (widthOutside strategy, 3) ∷ (not (eqb (length input) slots), 7) ∷ []) ≡ 0
         → keyedRefusal slots count pairs values input strategy held lent ≡ pick (isMissing held (mapKeys slots strategy (view count pairs values))) 11 (firstOf (keyedRoom slots strategy (view count pairs values) lent))
     then-keys z = first-later beforeKeys ((isMissing held (mapKeys slots strategy (view count pairs values)), 11) ∷ keyedRoom slots strategy (view count pairs values) lent) before-fits z
 
@@ -73,19 +73,19 @@ all-twelve (c ∷ cs) h e = by (c .0) (all-twelve cs (h .1)) e
     by true f e = omega (arith, h .0)
     by false f e = f e
 
-pub only-keys : (b : Bool) (slots : ℕ) (strategy : LinearTransformationStrategy) (ds : List Diagonal) (lent : Lent) → pick b 11 (firstOf (keyedRoom slots strategy ds lent)) ≡ 11 → b ≡ true
+only-keys : (b : Bool) (slots : ℕ) (strategy : LinearTransformationStrategy) (ds : List Diagonal) (lent : Lent) → pick b 11 (firstOf (keyedRoom slots strategy ds lent)) ≡ 11 → b ≡ true
 only-keys true slots strategy ds lent e = refl
 only-keys false slots strategy ds lent e = absurd (all-twelve (keyedRoom slots strategy ds lent) (refl, (refl, (refl, (refl, (refl, (refl, tt)))))) e)
 
 module _ (slots count : ℕ) (pairs values input : List ℕ) (strategy : LinearTransformationStrategy) (held : List ℕ) (lent : Lent) (n : ℕ)
     (z : firstOf (mapRefusals slots count pairs values ++ (widthOutside strategy, 3) ∷ (not (eqb (length input) slots), 7) ∷ []) ≡ 0) where
   -- where no refusal before the keys applies, the answer is refusal 11 exactly if a key is missing
-  pub missing-answered : isMissing held (mapKeys slots strategy (view count pairs values)) ≡ true
+  missing-answered : isMissing held (mapKeys slots strategy (view count pairs values)) ≡ true
       → keyedAnswered (keyedRefusal slots count pairs values input strategy held lent) slots strategy (view count pairs values) n ≡ Refused 11
   unfolding keyedAnswered
   missing-answered e = rw (then-keys slots count pairs values input strategy held lent z, e)
 
-  pub answered-missing : keyedAnswered (keyedRefusal slots count pairs values input strategy held lent) slots strategy (view count pairs values) n ≡ Refused 11
+  answered-missing : keyedAnswered (keyedRefusal slots count pairs values input strategy held lent) slots strategy (view count pairs values) n ≡ Refused 11
       → isMissing held (mapKeys slots strategy (view count pairs values)) ≡ true
   answered-missing e =
       only-keys (isMissing held (mapKeys slots strategy (view count pairs values))) slots strategy (view count pairs values) lent
@@ -114,7 +114,7 @@ module _ (slots count : ℕ) (pairs values input : List ℕ) (strategy : LinearT
       ∷ (isMissing held (mapKeys slots strategy (view count pairs values)), 11)
       ∷ keyedRoom slots strategy (view count pairs values) lent
 
-  pub none-refused : keyedRefusal slots count pairs values input strategy held lent ≡ 0 → Taken slots count pairs values input strategy held lent
+  none-refused : keyedRefusal slots count pairs values input strategy held lent ≡ 0 → Taken slots count pairs values input strategy held lent
   none-refused ok =
       let both = none-of-both (mapRefusals slots count pairs values) behindMap (suc-ne-zero 0, (suc-ne-zero 1, tt)) ok in
       let t = none-holds behindMap (suc-ne-zero 2, (suc-ne-zero 6, (suc-ne-zero 10, (suc-ne-zero 11, (suc-ne-zero 11, (suc-ne-zero 11, (suc-ne-zero 11, (suc-ne-zero 11, (suc-ne-zero 11, tt))))))))) (both .1) in
@@ -139,7 +139,7 @@ unfolding inFront
 front-words new old n e = take-at new (drop (length new) old) n e
 
 module _ (n : ℕ) (f : ℕ → ℕ) (old : List ℕ) where
-  pub front-taken : take n (inFront (tabulate n f) old) ≡ tabulate n f
+  front-taken : take n (inFront (tabulate n f) old) ≡ tabulate n f
   front-taken = front-words (tabulate n f) old n (length-tabulate n f)
 
   front-slot : (s : ℕ) → s < n → getD (inFront (tabulate n f) old) s 0 ≡ f s
@@ -182,11 +182,11 @@ module _ {slots count : ℕ} {pairs values input : List ℕ} {strategy : LinearT
   ds = view count pairs values
 
   -- the log has the rotations of the first n switches in front
-  pub run-log : (n : ℕ) → machine modulus slots strategy (view count pairs values) input (lentState lent) n .log ≡ inFront (map rotationOf (take n (schedule slots strategy (offsetsOf (view count pairs values))))) (lent .log)
+  run-log : (n : ℕ) → machine modulus slots strategy (view count pairs values) input (lentState lent) n .log ≡ inFront (map rotationOf (take n (schedule slots strategy (offsetsOf (view count pairs values))))) (lent .log)
   run-log n = machine-log modulus slots strategy ds input (lentState lent) n refl (rw (schedule-count slots strategy (offsetsOf ds)) (t .log-room))
 
   -- the answer of a finished run is the product
-  pub run-product : (n : ℕ) → mapSwitches slots strategy (view count pairs values) ≤ n → machine modulus slots strategy (view count pairs values) input (lentState lent) n .out ≡ inFront (tabulate slots (product modulus slots (view count pairs values) input)) (lent .out)
+  run-product : (n : ℕ) → mapSwitches slots strategy (view count pairs values) ≤ n → machine modulus slots strategy (view count pairs values) input (lentState lent) n .out ≡ inFront (tabulate slots (product modulus slots (view count pairs values) input)) (lent .out)
   run-product n h =
       finished-product modulus slots strategy ds (t .formed) (t .range .low) (t .range .high) (t .width) input (t .whole) (lentState lent) (t .cache-room) (t .nodes-room) n
       (rw (schedule-count slots strategy (offsetsOf ds)) h)
