@@ -94,7 +94,7 @@ module _ (slots count : ℕ) (pairs values input : List ℕ) (strategy : LinearT
       ∙ ap (λ (a : KeyedAnswer). getD (keyedNumbers a) 0 0) e)
 
 -- what no refusal tells
-pub record Taken (slots count : ℕ) (pairs values input : List ℕ) (strategy : LinearTransformationStrategy) (held : List ℕ) (lent : Lent) : Type 0 where
+pub record RunTaken (slots count : ℕ) (pairs values input : List ℕ) (strategy : LinearTransformationStrategy) (held : List ℕ) (lent : Lent) : Type 0 where
   pub map-accepted : mapRefusal slots count pairs values ≡ 0
   pub range : Range slots
   pub formed : FormedMap slots (view count pairs values)
@@ -114,7 +114,7 @@ module _ (slots count : ℕ) (pairs values input : List ℕ) (strategy : LinearT
       ∷ (isMissing held (mapKeys slots strategy (view count pairs values)), 11)
       ∷ keyedRoom slots strategy (view count pairs values) lent
 
-  none-refused : keyedRefusal slots count pairs values input strategy held lent ≡ 0 → Taken slots count pairs values input strategy held lent
+  none-refused : keyedRefusal slots count pairs values input strategy held lent ≡ 0 → RunTaken slots count pairs values input strategy held lent
   none-refused ok =
       let both = none-of-both (mapRefusals slots count pairs values) behindMap (suc-ne-zero 0, (suc-ne-zero 1, tt)) ok in
       let t = none-holds behindMap (suc-ne-zero 2, (suc-ne-zero 6, (suc-ne-zero 10, (suc-ne-zero 11, (suc-ne-zero 11, (suc-ne-zero 11, (suc-ne-zero 11, (suc-ne-zero 11, (suc-ne-zero 11, tt))))))))) (both .1) in
@@ -177,7 +177,7 @@ map-few slots count pairs values width e w gaps =
 
 -- ---- the machine of such a run
 
-module _ {slots count : ℕ} {pairs values input : List ℕ} {strategy : LinearTransformationStrategy} {held : List ℕ} {lent : Lent} (t : Taken slots count pairs values input strategy held lent) where
+module _ {slots count : ℕ} {pairs values input : List ℕ} {strategy : LinearTransformationStrategy} {held : List ℕ} {lent : Lent} (t : RunTaken slots count pairs values input strategy held lent) where
   abbrev ds : List Diagonal
   ds = view count pairs values
 
@@ -217,7 +217,7 @@ machine-min m slots strategy ds input lent n = by (lt-or-ge n (mapSwitches slots
 module _ {slots count : ℕ} {pairs values input : List ℕ} {strategy : LinearTransformationStrategy} {held : List ℕ} {n : ℕ} {old new : Lent} {r : KeyedAnswer} (k : KeyedRun slots count pairs values input strategy held n old new r) where
   module _ (ok : keyedRefusal slots count pairs values input strategy held old ≡ 0) where
     -- an accepted one: what its arguments are, what it answers and what it leaves
-    pub run-taken : Taken slots count pairs values input strategy held old
+    pub run-taken : RunTaken slots count pairs values input strategy held old
     run-taken = none-refused slots count pairs values input strategy held old ok
 
     pub run-answer : r ≡ keyedAnswered 0 slots strategy (view count pairs values) n
