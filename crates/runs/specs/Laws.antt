@@ -20,3 +20,5 @@ pub mod PairSchedules
 pub mod Answers
 pub mod Finished
 pub mod KeysUsed
+pub mod KeyedNumbers
+pub mod KeyedRuns

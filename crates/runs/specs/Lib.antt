@@ -4,5 +4,6 @@ pub mod Plans
 pub mod Switches
 pub mod Machines
 pub mod Keyed
+pub mod Demand3
 pub mod Steps
 pub mod Laws
