@@ -24,6 +24,10 @@ use Rattle.sibukyaran.specs.declared.SignedDigit.{SignedDigit}
 use Rattle.sibukyaran.specs.declared.PlanNumbers.{PlanNumbers}
 use Rattle.sibukyaran.specs.declared.PassNumbers.{PassNumbers}
 use Rattle.sibukyaran.specs.declared.TreeNumbers.{TreeNumbers}
+use Rattle.linear_transformation.specs.Trees.{flag}
+use Rattle.runs.specs.declared.keyed.KeyedAnswer.{KeyedAnswer}
+use Rattle.runs.specs.Keyed.{Lent, keyedNumbers, KeyedRun}
+use Rattle.sibukyaran.specs.declared.KeyedNumbers.{KeyedNumbers}
 
 abbrev pub told : Numbers → ℕ × ℕ
 told r = (r .refusal, r .value)
@@ -74,3 +78,13 @@ pub record TreeTold (rotations : BsgsRotations) (gs : List ℤ) (leaves leaves' 
   pub answer : TreeAnswer
   pub tells : toldTree r ≡ treeNumbers answer
   pub written : TreeWritten rotations gs leaves leaves' levels levels' pairs pairs' answer
+
+-- ---- the keyed run
+
+abbrev pub toldKeyed : KeyedNumbers → List ℕ
+toldKeyed r = r .refusal ∷ r .switches ∷ flag (r .finished) ∷ r .babies ∷ r .giants ∷ r .diagonals ∷ r .pairs ∷ []
+
+pub record KeyedTold (slots count : ℕ) (pairs values input : List ℕ) (strategy : LinearTransformationStrategy) (held : List ℕ) (n : ℕ) (old new : Lent) (r : KeyedNumbers) : Type 0 where
+  pub answer : KeyedAnswer
+  pub tells : toldKeyed r ≡ keyedNumbers answer
+  pub written : KeyedRun slots count pairs values input strategy held n old new answer

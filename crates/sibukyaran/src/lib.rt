@@ -1,5 +1,6 @@
 // The C library: each call of the crates below under a C name (include/sibukyaran.h). An answer
 // comes as its two numbers.
+mod keyed;
 mod kinds;
 mod matrices;
 mod plans;
@@ -13,7 +14,8 @@ ghost use lib.Signed.{mag};
 ghost use Rattle.ring.specs.Answers.{numbers};
 ghost use Rattle.diagonals.specs.Calls.{truths};
 ghost use Rattle.linear_transformation.specs.Calls.{digitNumbers, planNumbers, passNumbers, treeNumbers};
-ghost use Rattle.sibukyaran.specs.Numbers.{told, toldTruth, toldDigit, toldPlan, toldPasses, toldTree};
+ghost use Rattle.runs.specs.Keyed.{keyedNumbers};
+ghost use Rattle.sibukyaran.specs.Numbers.{told, toldTruth, toldDigit, toldPlan, toldPasses, toldTree, toldKeyed};
 
 // A refusal (0: none) and a value (0 where refused).
 #[repr(C)]
@@ -58,6 +60,19 @@ pub struct PassNumbers {
 pub struct TreeNumbers {
     pub refusal: u32,
     pub bits: u32,
+    pub pairs: usize,
+}
+
+// A refusal (0: none), the switches made and whether they are all, and the numbers of babies, giants,
+// diagonals and pairs (0 and false where refused).
+#[repr(C)]
+pub struct KeyedNumbers {
+    pub refusal: u32,
+    pub switches: usize,
+    pub finished: bool,
+    pub babies: u32,
+    pub giants: u32,
+    pub diagonals: u32,
     pub pairs: usize,
 }
 
@@ -168,6 +183,38 @@ fn tree_of(a: linear_transformation::TreeAnswer) -> TreeNumbers
             refusal: 0,
             bits: b,
             pairs: n,
+        },
+    }
+}
+
+fn keyed_of(a: runs::keyed::KeyedAnswer) -> KeyedNumbers
+    ensures { λ r. ⌜ toldKeyed r ≡ keyedNumbers a ⌝ }
+{
+    match a {
+        runs::keyed::KeyedAnswer::Refused(e) => KeyedNumbers {
+            refusal: e,
+            switches: 0,
+            finished: false,
+            babies: 0,
+            giants: 0,
+            diagonals: 0,
+            pairs: 0,
+        },
+        runs::keyed::KeyedAnswer::Is {
+            switches: s,
+            finished: f,
+            babies: b,
+            giants: g,
+            diagonals: d,
+            pairs: p,
+        } => KeyedNumbers {
+            refusal: 0,
+            switches: s,
+            finished: f,
+            babies: b,
+            giants: g,
+            diagonals: d,
+            pairs: p,
         },
     }
 }
