@@ -148,6 +148,33 @@ uint32_t sibukyaran_evaluate(size_t slots, size_t count, const uint32_t *pairs, 
                              const uint64_t *values, size_t values_len, const uint64_t *input, size_t input_len,
                              uint32_t strategy, size_t giant_step, uint64_t *out, size_t out_len);
 
+/* ---- The keyed run: the same product by key switches alone, each a rotation whose key is held, stopped after n switches.
+ *
+ * plan, of B + 3 * G + D words, and records, of two words a pair of the tree (the odd node, and 1 where the even one is
+ * there, else 0; none but with powers of two), are written in full for every n. cache, of (B - 1) * slots words, nodes, of
+ * G * slots, log, with a word for each switch of the plan, and out, of slots, hold what document 01's machine leaves after n
+ * switches; words that it has not written, and words behind a result, are kept. Finished, out begins with the product.
+ * B, G and D are the numbers of babies, giants and diagonals that the answer carries.
+ *
+ * 3 and 7: as above. 11: a key rotation of the plan is not on the held list, which may be in any order. 12: an output is
+ * shorter than its whole result. After a refusal no word is changed. */
+
+struct sibukyaran_keyed_numbers {
+    uint32_t refusal;
+    size_t switches;
+    bool finished;
+    uint32_t babies;
+    uint32_t giants;
+    uint32_t diagonals;
+    size_t pairs;
+};
+
+struct sibukyaran_keyed_numbers sibukyaran_evaluate_keyed(
+    size_t slots, size_t count, const uint32_t *pairs, size_t pairs_len, const uint64_t *values, size_t values_len,
+    const uint64_t *input, size_t input_len, uint32_t strategy, size_t giant_step, const uint64_t *held, size_t held_len,
+    uint64_t n, uint32_t *plan, size_t plan_len, uint32_t *records, size_t records_len, uint64_t *cache, size_t cache_len,
+    uint64_t *nodes, size_t nodes_len, uint32_t *log, size_t log_len, uint64_t *out, size_t out_len);
+
 /* ---- Plans. */
 
 /* The residue of a diagonal index modulo slots. 1: slots. */

@@ -70,14 +70,22 @@ impl Bench {
     }
 }
 
-pub fn run() -> ExitCode {
+/// The lines of every layer, or of the one that is named.
+pub fn run(layer: Option<&str>) -> ExitCode {
+    let layers: [(&str, fn(&mut Bench)); 6] = [
+        ("ring", ring::bench),
+        ("diagonals", diagonals::bench),
+        ("plans", plans::bench),
+        ("matrices", matrices::bench),
+        ("runs", runs::bench),
+        ("keyed", keyed::bench),
+    ];
     let mut bench = Bench::default();
-    ring::bench(&mut bench);
-    diagonals::bench(&mut bench);
-    plans::bench(&mut bench);
-    matrices::bench(&mut bench);
-    runs::bench(&mut bench);
-    keyed::bench(&mut bench);
+    for (name, lines) in layers {
+        if layer.is_none_or(|wanted| wanted == name) {
+            lines(&mut bench);
+        }
+    }
     println!("{} missed", bench.missed);
     ExitCode::from((bench.missed > 0) as u8)
 }

@@ -583,7 +583,8 @@ pub fn bench(bench: &mut Bench) {
         let rust_input = wrapped(&input);
         let indexes = rust.indexes();
         let mut run = Run { map, input, how: (0, 32) };
-        for (name, kind) in [("Bsgs(32)", 0), ("powers of two (32)", 1)] {
+        // at most 1.4 and 1.5 times the plain run's time
+        for (name, kind, slower) in [("Bsgs(32)", 0, 1.4), ("powers of two (32)", 1, 1.5)] {
             run.how.0 = kind;
             let strategy = accepted(MOST, run.how).unwrap();
             let keys: Vec<u64> = run.plan().keys().into_iter().collect();
@@ -592,14 +593,14 @@ pub fn bench(bench: &mut Bench) {
             if kind == 0 {
                 bench.pair(
                     &format!("keyed, 511 of {length}, {name}, the Rust's evaluate"),
-                    None,
+                    Some(2.0),
                     || ours::evaluate_keyed(keep(run.job(&keys, u64::MAX)), &mut buffers),
                     || keep(&rust).evaluate(&rust_input, strategy),
                 );
             }
             bench.pair(
                 &format!("keyed, 511 of {length}, {name}, plain run"),
-                None,
+                Some(1.0 / slower),
                 || ours::evaluate_keyed(keep(run.job(&keys, u64::MAX)), &mut buffers),
                 || ours::evaluate(keep(run.map.lent()), &run.input, strategy, &mut plain),
             );
@@ -607,7 +608,7 @@ pub fn bench(bench: &mut Bench) {
             let (mut plan, mut out) = (vec![0; buffers.plan.len()], vec![0; 2 * keys.len()]);
             bench.pair(
                 &format!("keyed, n = 0, 511 of {length}, {name}, plan"),
-                None,
+                Some(1.0),
                 || ours::evaluate_keyed(keep(run.job(&keys, 0)), &mut buffers),
                 || {
                     let refusal = ours::map_refusal(keep(run.map.lent()));

@@ -1,7 +1,7 @@
 //! The Rust beside ours.
 //!
 //! `beside compare` runs both on the same calls and ends in 'N passed, M failed'. `beside record` writes the recorded
-//! sample of the Rust's answers. `beside bench` times both in one run.
+//! sample of the Rust's answers. `beside bench` times both in one run, `beside bench LAYER` one layer alone.
 
 mod bench;
 mod diagonals;
@@ -45,7 +45,7 @@ fn main() -> ExitCode {
     match command.as_str() {
         "compare" => compare(),
         "record" => sample::record(),
-        "bench" => bench::run(),
+        "bench" => bench::run(std::env::args().nth(2).as_deref()),
         _ => {
             eprintln!("beside: compare, record or bench");
             ExitCode::from(2)
