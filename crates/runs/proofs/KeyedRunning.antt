@@ -30,17 +30,100 @@ use Rattle.runs.specs.declared.keyed.KeyedAnswer.{KeyedAnswer}
 use Rattle.runs.specs.declared.keyed.KeyedAnswer.the-variants.{Refused, Is}
 use Rattle.runs.specs.Keyed.{Lent, lent, lentState, keyedRoom, keyedRefusal, keyedAnswered, keyedLeft, KeyedRun}
 use Rattle.runs.specs.Laws.NodeRuns.{map-planned}
-use Rattle.runs.specs.Steps.Surveys.{surveyRefusal, takes, Taken, Surveyed, Sized, surveyRoom, PlanAsked, bitsBy, PlanLeft}
+use Rattle.runs.specs.Steps.Surveys.{surveyRefusal, takes, Taken, Surveyed, Sized, PlanAsked, bitsBy, PlanLeft}
+use Rattle.runs.specs.Steps.Ready.{surveyRoom, Ready, Small, answeredBy}
 use Rattle.runs.specs.Steps.Runs.{RunAsked, leftBy, RunLeft}
 use Rattle.runs.proofs.Running.{sized}
 
+-- ---- an accepted run
+
+module _ {strategy : LinearTransformationStrategy} {survey : Survey} {slots : ℕ} {offsets pairs values input : List ℕ} {old : Lent} (a : Ready strategy survey slots offsets pairs values input old) where
+  abbrev count : ℕ
+  count = survey .diagonals
+
+  abbrev ks : List ℕ
+  ks = offsetsOf (view count pairs values)
+
+  planned : Planned slots (widthOf strategy) ks
+  planned = map-planned (a .taken .formed) (a .taken .range .low) strategy (width-positive strategy (a .taken .width))
+
+  roomy : Each (λ c. c .0 ≡ false) (surveyRoom survey slots old)
+  roomy = none-holds (surveyRoom survey slots old) (suc-ne-zero 11, (suc-ne-zero 11, (suc-ne-zero 11, (suc-ne-zero 11, (suc-ne-zero 11, (suc-ne-zero 11, tt)))))) (a .room)
+
+  babies-are : survey .babies ≡ length (planBabies slots strategy ks)
+  unfolding takes
+  babies-are = ap (λ (s : Survey). s .babies) (a .survey-is)
+
+  giants-are : survey .giants ≡ length (planGiants slots strategy ks)
+  unfolding takes
+  giants-are = ap (λ (s : Survey). s .giants) (a .survey-is)
+
+  pairs-are : survey .pairs ≡ pairCount slots strategy ks
+  unfolding takes
+  pairs-are = ap (λ (s : Survey). s .pairs) (a .survey-is)
+
+  offsets-many : length ks ≡ count
+  offsets-many = ap length (offsets-view count pairs values) ∙ length-tabulate count (offsetAt pairs)
+
+  plan-words : length (planWords slots strategy ks) ≡ length (planBabies slots strategy ks) + 3 * length (planGiants slots strategy ks) + length ks
+  unfolding planWords
+  plan-words = words-length planned (planBabies slots strategy ks)
+
+  plan-fits : length (planWords slots strategy ks) ≤ length (old .plan)
+  plan-fits = omega (arith, plan-words, babies-are, giants-are, offsets-many, ltb-false (length (old .plan)) (survey .babies + 3 * survey .giants + count) (roomy .0))
+
+  records-fit : length (planRecords slots strategy ks) ≤ length (old .records)
+  records-fit = omega (arith, records-length slots strategy ks, pairs-are, ltb-false (length (old .records)) (2 * survey .pairs) (roomy .1 .0))
+
+  pub plan-asked : {levels : List ℕ} → length levels ≡ 32 → PlanAsked slots strategy offsets (old .plan) (old .records) levels
+  plan-asked l =
+      rw (a .offsets-are)
+      (record {
+        range = a .taken .range;
+        width = a .taken .width;
+        distinct = record { rises = planned .rises; low = planned .low };
+        plan-room = plan-fits;
+        records-room = records-fit;
+        levels-room = l;
+      })
+
+  module _ {plan records levels levels' : List ℕ} {bits : ℕ} (p : PlanLeft slots strategy offsets (old .plan) plan (old .records) records levels levels' bits) (len : length plan ≡ length (old .plan)) where
+    whole : length input ≡ slots
+    whole = a .taken .whole
+
+    pub run-asked : RunAsked strategy survey bits pairs values input plan levels' records (old .cache) (old .nodes) (old .log) (old .out)
+    run-asked =
+        record {
+          taken = rw whole (a .taken);
+          survey-is = a .survey-is ∙ rw whole;
+          bits-are = p .bits-are ∙ rw (a .offsets-are, whole);
+          old-plan = old .plan;
+          plan-is = p .plan-is ∙ rw (a .offsets-are, whole);
+          plan-room = rw whole (omega (arith, plan-fits, len));
+          old-levels = levels;
+          levels-are = p .levels-are ∙ rw (a .offsets-are, whole);
+          old-records = old .records;
+          records-are = p .records-are ∙ rw (a .offsets-are, whole);
+          cache-room = rw whole (ltb-false (length (old .cache)) ((survey .babies - 1) * slots) (roomy .1 .1 .0));
+          nodes-room = rw whole (ltb-false (length (old .nodes)) (survey .giants * slots) (roomy .1 .1 .1 .0));
+          log-room = ltb-false (length (old .log)) (survey .switches) (roomy .1 .1 .1 .1 .0);
+          out-room = rw whole (ltb-false (length (old .out)) slots (roomy .1 .1 .1 .1 .1 .0));
+        }
+
+    pub all-left : (n : ℕ) {cache nodes log out : List ℕ} → RunLeft strategy survey n pairs values input (old .cache) cache (old .nodes) nodes (old .log) log (old .out) out
+        → lent plan records cache nodes log out ≡ keyedLeft slots strategy (view count pairs values) input old n
+    unfolding keyedLeft
+    all-left n r = rw (p .plan-is, p .records-are, a .offsets-are, r .cache-is, r .nodes-are, r .log-is, r .out-is, whole)
+
+-- ---- refusals, and the accepted call
+
 module _ (slots count : ℕ) (pairs values input : List ℕ) (strategy : LinearTransformationStrategy) (held : List ℕ) (n : ℕ) (old : Lent) where
-  pub refused : (e : ℕ) → keyedRefusal slots count pairs values input strategy held old ≡ e → (e ≡ 0 → ⊥) → KeyedRun slots count pairs values input strategy held n old old (Refused e)
+  refused : (e : ℕ) → keyedRefusal slots count pairs values input strategy held old ≡ e → (e ≡ 0 → ⊥) → KeyedRun slots count pairs values input strategy held n old old (Refused e)
   unfolding keyedAnswered
   refused zero q h = absurd (h refl)
   refused (suc e) q h = record { answer = rw q; words = rw q }
 
-module _ {slots count : ℕ} {pairs values input : List ℕ} {strategy : LinearTransformationStrategy} {held before after : List ℕ} {survey : Survey} (s : Surveyed slots count pairs values input strategy held before after survey) (n : ℕ) (old : Lent) where
+module _ {slots count : ℕ} {pairs values input : List ℕ} {strategy : LinearTransformationStrategy} {held before after : List ℕ} {survey : Survey} (s : Surveyed slots count pairs values input strategy held before after survey) where
   abbrev tests : List (Bool × ℕ)
   tests =
       mapRefusals slots count pairs values
@@ -49,123 +132,75 @@ module _ {slots count : ℕ} {pairs values input : List ℕ} {strategy : LinearT
       ∷ (isMissing held (planKeys slots strategy (offsetsOf (view count pairs values))), 11)
       ∷ []
 
-  abbrev ks : List ℕ
-  ks = offsetsOf (view count pairs values)
-
   -- a refusal of the survey
-  pub survey-refused : (survey .refusal ≡ 0 → ⊥) → KeyedRun slots count pairs values input strategy held n old old (Refused (survey .refusal))
-  survey-refused h =
+  pub survey-refused : (n : ℕ) (old : Lent) → (survey .refusal ≡ 0 → ⊥) → KeyedRun slots count pairs values input strategy held n old old (Refused (survey .refusal))
+  survey-refused n old h =
       refused slots count pairs values input strategy held n old (survey .refusal)
       (first-refused tests (keyedRoom slots strategy (view count pairs values) old) (λ z. h (s .is ∙ z)) ∙ sym (s .is)) h
 
   module _ (z : survey .refusal ≡ 0) where
-    taken : Taken slots count pairs values input strategy
-    taken = s .taken z
-
-    pub survey-is : survey ≡ takes slots strategy ks count
+    survey-is : survey ≡ takes slots strategy (offsetsOf (view count pairs values)) count
     survey-is = s .answer ∙ rw (sym (s .is) ∙ z)
 
     pub sizes : Sized survey slots
-    sizes = sized slots taken survey-is
+    sizes = sized slots (s .taken z) survey-is
+
+    pub small : Small survey
+    small = record { babies-low = sizes .babies-low; giants-low = sizes .giants-low; diagonals-low = sizes .diagonals-low }
 
     many : length (view count pairs values) ≡ count
     many = length-view count pairs values
 
-    -- the room that the survey asks for is document 01's
-    room-is : firstOf (surveyRoom survey slots (length (old .plan)) (length (old .records)) (length (old .cache)) (length (old .nodes)) (length (old .log)) (length (old .out))) ≡ keyedRefusal slots count pairs values input strategy held old
+    diagonals-are : survey .diagonals ≡ count
     unfolding takes
-    room-is = rw (survey-is, many) (rw many at (sym (first-later tests (keyedRoom slots strategy (view count pairs values) old) numbers (sym (s .is) ∙ z))))
-      where
-        numbers : Each (λ c. c .1 ≡ 0 → ⊥) tests
-        numbers = (suc-ne-zero 0, (suc-ne-zero 1, (suc-ne-zero 2, (suc-ne-zero 6, (suc-ne-zero 10, tt)))))
+    diagonals-are = ap (λ (x : Survey). x .diagonals) survey-is
 
-    -- no room
-    pub room-refused : {e : ℕ} → e ≡ firstOf (surveyRoom survey slots (length (old .plan)) (length (old .records)) (length (old .cache)) (length (old .nodes)) (length (old .log)) (length (old .out))) → (e ≡ 0 → ⊥) → KeyedRun slots count pairs values input strategy held n old old (Refused e)
-    room-refused {e} q h = refused slots count pairs values input strategy held n old e (sym (q ∙ room-is)) h
+    pub few : min count 65536 ≤ length before → count ≤ length after
+    few e = omega (arith, count-low (s .taken z .formed), s .taken z .range .high, s .len)
 
-    pub few : count ≤ 65536
-    few = omega (arith, count-low (taken .formed), taken .range .high)
-
-    pub offsets-room : length before ≡ 65536 → count ≤ length after
-    offsets-room e = omega (arith, few, s .len)
-
-    pub offsets-are : take count after ≡ ks
+    offsets-are : take count after ≡ offsetsOf (view count pairs values)
     unfolding inFront
-    offsets-are = rw (s .listed z) (take-at ks (drop (length ks) before) count (ap length (offsets-view count pairs values) ∙ length-tabulate count (offsetAt pairs)))
+    offsets-are = rw (s .listed z) (take-at (offsetsOf (view count pairs values)) (drop (length (offsetsOf (view count pairs values))) before) count (ap length (offsets-view count pairs values) ∙ length-tabulate count (offsetAt pairs)))
 
-    planned : Planned slots (widthOf strategy) ks
-    planned = map-planned (taken .formed) (taken .range .low) strategy (width-positive strategy (taken .width))
-
-    module _ {e : ℕ} (q : e ≡ firstOf (surveyRoom survey slots (length (old .plan)) (length (old .records)) (length (old .cache)) (length (old .nodes)) (length (old .log)) (length (old .out)))) (y : e ≡ 0) where
-      accepted : keyedRefusal slots count pairs values input strategy held old ≡ 0
-      accepted = sym room-is ∙ sym q ∙ y
-
-      roomy : Each (λ c. c .0 ≡ false) (surveyRoom survey slots (length (old .plan)) (length (old .records)) (length (old .cache)) (length (old .nodes)) (length (old .log)) (length (old .out)))
-      roomy = none-holds (surveyRoom survey slots (length (old .plan)) (length (old .records)) (length (old .cache)) (length (old .nodes)) (length (old .log)) (length (old .out))) (suc-ne-zero 11, (suc-ne-zero 11, (suc-ne-zero 11, (suc-ne-zero 11, (suc-ne-zero 11, (suc-ne-zero 11, tt)))))) (sym q ∙ y)
-
-      plan-words : length (planWords slots strategy ks) ≡ survey .babies + 3 * survey .giants + survey .diagonals
-      unfolding planWords takes
-      plan-words = rw survey-is (words-length planned (planBabies slots strategy ks) ∙ rw (ap length (offsets-view count pairs values) ∙ length-tabulate count (offsetAt pairs)))
-
-      plan-fits : length (planWords slots strategy ks) ≤ length (old .plan)
-      plan-fits = omega (arith, plan-words, ltb-false (length (old .plan)) _ (roomy .0))
-
-      record-words : length (planRecords slots strategy ks) ≡ 2 * survey .pairs
+    module _ (n : ℕ) (old : Lent) where
+      -- the room that the survey asks for is document 01's
+      room-is : firstOf (surveyRoom survey slots old) ≡ keyedRefusal slots count pairs values input strategy held old
       unfolding takes
-      record-words = rw survey-is (records-length slots strategy ks)
+      room-is = rw (survey-is, many) (rw many at (sym (first-later tests (keyedRoom slots strategy (view count pairs values) old) numbers (sym (s .is) ∙ z))))
+        where
+          numbers : Each (λ c. c .1 ≡ 0 → ⊥) tests
+          numbers = (suc-ne-zero 0, (suc-ne-zero 1, (suc-ne-zero 2, (suc-ne-zero 6, (suc-ne-zero 10, tt)))))
 
-      records-fit : length (planRecords slots strategy ks) ≤ length (old .records)
-      records-fit = omega (arith, record-words, ltb-false (length (old .records)) _ (roomy .1 .0))
+      -- no room
+      pub room-refused : {e : ℕ} → e ≡ firstOf (surveyRoom survey slots old) → (e ≡ 0 → ⊥) → KeyedRun slots count pairs values input strategy held n old old (Refused e)
+      room-refused {e} q h = refused slots count pairs values input strategy held n old e (sym (q ∙ room-is)) h
 
-      pub plan-asked : {levels : List ℕ} → length levels ≡ 32 → PlanAsked slots strategy (take count after) (old .plan) (old .records) levels
-      plan-asked l =
-          rw offsets-are
-          (record {
-            range = taken .range;
-            width = taken .width;
-            distinct = record { rises = planned .rises; low = planned .low };
-            plan-room = plan-fits;
-            records-room = records-fit;
-            levels-room = l;
-          })
+      module _ {e : ℕ} (q : e ≡ firstOf (surveyRoom survey slots old)) (y : e ≡ 0) where
+        pub ready : Ready strategy survey slots (take count after) pairs values input old
+        ready = record { taken = taken-by (survey .diagonals) diagonals-are; survey-is = survey-is ∙ back (survey .diagonals) diagonals-are; offsets-are = offsets-are ∙ map-back (survey .diagonals) diagonals-are; room = sym q ∙ y }
+          where
+            taken-by : (d : ℕ) → d ≡ count → Taken slots d pairs values input strategy
+            taken-by d f = rw f (s .taken z)
 
-      module _ {plan records levels levels' : List ℕ} {bits : ℕ} (p : PlanLeft slots strategy (take count after) (old .plan) plan (old .records) records levels levels' bits) (len : length plan ≡ length (old .plan)) where
-        diagonals-are : survey .diagonals ≡ count
-        unfolding takes
-        diagonals-are = ap (λ (x : Survey). x .diagonals) survey-is
+            back : (d : ℕ) → d ≡ count → takes slots strategy (offsetsOf (view count pairs values)) count ≡ takes slots strategy (offsetsOf (view d pairs values)) d
+            back d f = rw f
 
-        back : (l d : ℕ) → l ≡ slots → d ≡ count → takes slots strategy ks count ≡ takes l strategy (offsetsOf (view d pairs values)) d
-        back l d e f = rw (e, f)
+            map-back : (d : ℕ) → d ≡ count → offsetsOf (view count pairs values) ≡ offsetsOf (view d pairs values)
+            map-back d f = rw f
 
-        pub run-asked : RunAsked strategy survey bits pairs values input plan levels' records (old .cache) (old .nodes) (old .log) (old .out)
-        run-asked =
-            record {
-              taken = rw (diagonals-are, taken .whole) taken;
-              survey-is = survey-is ∙ back (length input) (survey .diagonals) (taken .whole) diagonals-are;
-              bits-are = rw (taken .whole, diagonals-are) (p .bits-are ∙ rw offsets-are);
-              old-plan = old .plan;
-              plan-is = rw (taken .whole, diagonals-are) (p .plan-is ∙ rw offsets-are);
-              plan-room = rw (taken .whole, diagonals-are) (omega (arith, plan-fits, len));
-              old-levels = levels;
-              levels-are = rw (taken .whole, diagonals-are) (p .levels-are ∙ rw offsets-are);
-              old-records = old .records;
-              records-are = rw (taken .whole, diagonals-are) (p .records-are ∙ rw offsets-are);
-              cache-room = rw (taken .whole) (ltb-false (length (old .cache)) _ (roomy .1 .1 .0));
-              nodes-room = rw (taken .whole) (ltb-false (length (old .nodes)) _ (roomy .1 .1 .1 .0));
-              log-room = ltb-false (length (old .log)) _ (roomy .1 .1 .1 .1 .0);
-              out-room = rw (taken .whole) (ltb-false (length (old .out)) _ (roomy .1 .1 .1 .1 .1 .0));
-            }
+        accepted : keyedRefusal slots count pairs values input strategy held old ≡ 0
+        accepted = sym room-is ∙ sym q ∙ y
 
-        -- the answer of an accepted run
-        answer-is : (switches : ℕ) → switches ≡ min n (survey .switches) → Is switches (leb (survey .switches) n) (survey .babies) (survey .giants) count (survey .pairs) ≡ keyedAnswered 0 slots strategy (view count pairs values) n
+        answer-is : answeredBy survey n ≡ keyedAnswered 0 slots strategy (view count pairs values) n
         unfolding keyedAnswered takes
-        answer-is switches x = rw (x, survey-is, many)
+        answer-is = rw (survey-is, many)
 
-        pub run-left : {cache nodes log out : List ℕ} {switches : ℕ} → switches ≡ min n (survey .switches) → RunLeft strategy survey n pairs values input (old .cache) cache (old .nodes) nodes (old .log) log (old .out) out
-            → KeyedRun slots count pairs values input strategy held n old (lent plan records cache nodes log out) (Is switches (leb (survey .switches) n) (survey .babies) (survey .giants) count (survey .pairs))
-        unfolding keyedLeft
-        run-left {cache} {nodes} {log} {out} {switches} x r =
+        pub accepted-run : {new : Lent} {r : KeyedAnswer} → new ≡ keyedLeft slots strategy (view (survey .diagonals) pairs values) input old n → r ≡ answeredBy survey n → KeyedRun slots count pairs values input strategy held n old new r
+        accepted-run {new} {r} w x =
             record {
-              answer = answer-is switches x ∙ rw accepted;
-              words = rw (accepted, p .plan-is, p .records-are, offsets-are, r .cache-is, r .nodes-are, r .log-is, r .out-is, taken .whole, diagonals-are);
+              answer = x ∙ answer-is ∙ rw accepted;
+              words = w ∙ map-of (survey .diagonals) diagonals-are ∙ rw accepted;
             }
+          where
+            map-of : (d : ℕ) → d ≡ count → keyedLeft slots strategy (view d pairs values) input old n ≡ keyedLeft slots strategy (view count pairs values) input old n
+            map-of d f = rw f

@@ -1,6 +1,6 @@
 -- The survey before a run: each refusal, the offsets listed, and what the plan needs.
 -- Assumes nothing.
-use Prim.Native.Nat.{ℕ, zero, suc, _≤_}
+use Prim.Native.Nat.{ℕ, zero, suc, _≤_, min}
 use mathlib.Core.Path.{_≡_, refl, sym, ap, _∙_}
 use mathlib.Core.Bool.{Bool, true, false, not}
 use mathlib.Core.List.{List, [], _∷_, _++_}
@@ -98,7 +98,7 @@ module _ {slots count code : ℕ} {pairs values : List ℕ} (j : Judged slots co
         pub few : count ≤ 65536
         few = omega (arith, count-low (j .formed h), range .high)
 
-        module _ {old mid : List ℕ} {a : Answer} (size : length old ≡ 65536) (x : Indexes slots count pairs values old mid a) where
+        module _ {old mid : List ℕ} {a : Answer} (size : min count 65536 ≤ length old) (x : Indexes slots count pairs values old mid a) where
           mid-is : mid ≡ inFront ks old
           mid-is = x .out ∙ onAccept-accepted _ _ _ (then-later j ((ltb (length old) count, 12) ∷ []) h ∙ rw (le-ltb (length old) count (omega (arith, few))))
 

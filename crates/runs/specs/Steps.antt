@@ -5,3 +5,4 @@ pub mod Nodes
 pub mod Giants
 pub mod Surveys
 pub mod Runs
+pub mod Ready

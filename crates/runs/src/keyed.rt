@@ -3,11 +3,13 @@
 ghost use mathlib.Core.Path.{_≡_};
 ghost use lib.ListN.{length};
 ghost use Rattle.ring.specs.Refusals.{firstOf};
-ghost use Prim.Native.Nat.{_-_, _≤_};
-ghost use Rattle.runs.specs.Keyed.{lent, KeyedRun};
+ghost use Prim.Native.Nat.{_-_, _≤_, min};
+ghost use Rattle.diagonals.specs.Maps.{view};
+ghost use Rattle.runs.specs.Keyed.{lent, keyedLeft, KeyedRun};
 ghost use Rattle.linear_transformation.specs.Plans.{widthOf};
-ghost use Rattle.runs.specs.Steps.Surveys.{noSurvey, Surveyed, Sized, surveyRoom, PlanAsked, PlanLeft};
+ghost use Rattle.runs.specs.Steps.Surveys.{noSurvey, Surveyed, Sized, PlanAsked, PlanLeft};
 ghost use Rattle.runs.specs.Steps.Runs.{TurningAsked, NodesTurned, RunAsked, GiantsLeft, RunLeft};
+ghost use Rattle.runs.specs.Steps.Ready.{surveyRoom, Ready, Small, answeredBy};
 use crate::answering::give_answer;
 use crate::caching::make_babies;
 use crate::giants::join_pairs;
@@ -69,7 +71,7 @@ fn look_over(
     held: &[u64],
     offsets: &mut [u32],
 ) -> Survey
-    requires { ⌜ length (now offsets) ≡ 65536 ⌝ }
+    requires { ⌜ min count 65536 ≤ length (now offsets) ⌝ }
     ensures { λ r. ⌜ Surveyed slots count (now (pairs .entry)) (now (values .entry)) (now (input .entry)) strategy (now (held .entry)) (now (offsets .entry)) (now (offsets .exit)) r ⌝ }
 {
     let code = diagonals::map_refusal(slots, count, pairs, values);
@@ -105,36 +107,36 @@ fn look_over(
     }
 }
 
-// 12 where a lent output of these lengths is shorter than its whole result, else 0.
+// 12 where a lent output is shorter than its whole result, else 0.
 fn room_refusal(
     survey: Survey,
     slots: usize,
-    plan: usize,
-    records: usize,
-    cache: usize,
-    nodes: usize,
-    log: usize,
-    out: usize,
+    plan: &[u32],
+    records: &[u32],
+    cache: &[u64],
+    nodes: &[u64],
+    log: &[u32],
+    out: &[u64],
 ) -> u32
     requires { ⌜ Sized survey slots ⌝ }
-    ensures { λ r. ⌜ r ≡ firstOf (surveyRoom survey slots plan records cache nodes log out) ⌝ }
+    ensures { λ r. ⌜ r ≡ firstOf (surveyRoom survey slots (lent (now (plan .entry)) (now (records .entry)) (now (cache .entry)) (now (nodes .entry)) (now (log .entry)) (now (out .entry)))) ⌝ }
 {
-    if plan < survey.babies + 3 * survey.giants + survey.diagonals {
+    if plan.len() < survey.babies + 3 * survey.giants + survey.diagonals {
         return 12;
     }
-    if records / 2 < survey.pairs {
+    if records.len() / 2 < survey.pairs {
         return 12;
     }
-    if cache < (survey.babies - 1) * slots {
+    if cache.len() < (survey.babies - 1) * slots {
         return 12;
     }
-    if nodes < survey.giants * slots {
+    if nodes.len() < survey.giants * slots {
         return 12;
     }
-    if log < survey.switches {
+    if log.len() < survey.switches {
         return 12;
     }
-    if out < slots {
+    if out.len() < slots {
         return 12;
     }
     0
@@ -313,11 +315,117 @@ fn run_plan(
     );
 }
 
+// An accepted run: plan, records, and the machine after n switches.
+fn run_accepted(
+    strategy: LinearTransformationStrategy,
+    survey: Survey,
+    slots: usize,
+    n: usize,
+    offsets: &[u32],
+    pairs: &[u32],
+    values: &[u64],
+    input: &[u64],
+    plan: &mut [u32],
+    records: &mut [u32],
+    cache: &mut [u64],
+    nodes: &mut [u64],
+    log: &mut [u32],
+    out: &mut [u64],
+)
+    requires { ⌜ Ready strategy survey slots (now offsets) (now pairs) (now values) (now input) (lent (now plan) (now records) (now cache) (now nodes) (now log) (now out)) ⌝ }
+    ensures { λ _. ⌜ lent (now (plan .exit)) (now (records .exit)) (now (cache .exit)) (now (nodes .exit)) (now (log .exit)) (now (out .exit)) ≡ keyedLeft slots strategy (view (survey .diagonals) (now (pairs .entry)) (now (values .entry))) (now (input .entry)) (lent (now (plan .entry)) (now (records .entry)) (now (cache .entry)) (now (nodes .entry)) (now (log .entry)) (now (out .entry))) n ⌝ }
+{
+    let mut levels = [0u32; 32];
+    let bits = write_plan(offsets, slots, strategy, plan, records, &mut levels);
+    run_plan(
+        strategy,
+        survey,
+        bits,
+        n,
+        pairs,
+        values,
+        input,
+        plan,
+        &levels,
+        records,
+        cache,
+        nodes,
+        log,
+        out,
+    );
+}
+
+// The answer of an accepted run that may make n switches.
+fn answer_of(survey: Survey, n: usize) -> KeyedAnswer
+    requires { ⌜ Small survey ⌝ }
+    ensures { λ r. ⌜ r ≡ answeredBy survey n ⌝ }
+{
+    KeyedAnswer::Is {
+        switches: ring::least(n, survey.switches),
+        finished: survey.switches <= n,
+        babies: survey.babies as u32,
+        giants: survey.giants as u32,
+        diagonals: survey.diagonals as u32,
+        pairs: survey.pairs,
+    }
+}
+
+// The keyed run, with a list for the map's offsets.
+fn run_listed(
+    slots: usize,
+    count: usize,
+    pairs: &[u32],
+    values: &[u64],
+    input: &[u64],
+    strategy: LinearTransformationStrategy,
+    held: &[u64],
+    n: u64,
+    offsets: &mut [u32],
+    plan: &mut [u32],
+    records: &mut [u32],
+    cache: &mut [u64],
+    nodes: &mut [u64],
+    log: &mut [u32],
+    out: &mut [u64],
+) -> KeyedAnswer
+    requires { ⌜ min count 65536 ≤ length (now offsets) ⌝ }
+    ensures { λ r. ⌜ KeyedRun slots count (now (pairs .entry)) (now (values .entry)) (now (input .entry)) strategy (now (held .entry)) n (lent (now (plan .entry)) (now (records .entry)) (now (cache .entry)) (now (nodes .entry)) (now (log .entry)) (now (out .entry))) (lent (now (plan .exit)) (now (records .exit)) (now (cache .exit)) (now (nodes .exit)) (now (log .exit)) (now (out .exit))) r ⌝ }
+{
+    let survey = look_over(slots, count, pairs, values, input, strategy, held, offsets);
+    if survey.refusal != 0 {
+        return KeyedAnswer::Refused(survey.refusal);
+    }
+    let code = room_refusal(survey, slots, plan, records, cache, nodes, log, out);
+    if code != 0 {
+        return KeyedAnswer::Refused(code);
+    }
+    let ks = &offsets[..count];
+    let limit = n as usize;
+    run_accepted(
+        strategy,
+        survey,
+        slots,
+        limit,
+        ks,
+        pairs,
+        values,
+        input,
+        plan,
+        records,
+        cache,
+        nodes,
+        log,
+        out,
+    );
+    answer_of(survey, limit)
+}
+
 // The keyed run, allowed n switches: writes plan and pair records in full, two words a pair, and leaves
 // in cache, nodes, log and out what document 01's machine leaves after n switches; finished, out begins
 // with the product. Refuses with 1 or 2 a map, with 3 a strategy's width, with 7 an input that is not
 // slots long, with 11 a key rotation of the plan that is not on the held list, and with 12 an output
-// that is shorter than its whole result; then every word is as it was.
+// that is shorter than its whole result; then every word is as it was. A short list of offsets costs
+// little to clear, so few diagonals have one of their own.
 pub fn evaluate_keyed(
     slots: usize,
     count: usize,
@@ -336,8 +444,28 @@ pub fn evaluate_keyed(
 ) -> KeyedAnswer
     ensures { λ r. ⌜ KeyedRun slots count (now (pairs .entry)) (now (values .entry)) (now (input .entry)) strategy (now (held .entry)) n (lent (now (plan .entry)) (now (records .entry)) (now (cache .entry)) (now (nodes .entry)) (now (log .entry)) (now (out .entry))) (lent (now (plan .exit)) (now (records .exit)) (now (cache .exit)) (now (nodes .exit)) (now (log .exit)) (now (out .exit))) r ⌝ }
 {
+    if count <= 1024 {
+        let mut few = [0u32; 1024];
+        return run_listed(
+            slots,
+            count,
+            pairs,
+            values,
+            input,
+            strategy,
+            held,
+            n,
+            &mut few,
+            plan,
+            records,
+            cache,
+            nodes,
+            log,
+            out,
+        );
+    }
     let mut offsets = [0u32; 65536];
-    let survey = look_over(
+    run_listed(
         slots,
         count,
         pairs,
@@ -345,57 +473,13 @@ pub fn evaluate_keyed(
         input,
         strategy,
         held,
+        n,
         &mut offsets,
-    );
-    let code = survey.refusal;
-    if code != 0 {
-        return KeyedAnswer::Refused(code);
-    }
-    let room = room_refusal(
-        survey,
-        slots,
-        plan.len(),
-        records.len(),
-        cache.len(),
-        nodes.len(),
-        log.len(),
-        out.len(),
-    );
-    if room != 0 {
-        return KeyedAnswer::Refused(room);
-    }
-    let mut levels = [0u32; 32];
-    let bits = write_plan(
-        &offsets[..count],
-        slots,
-        strategy,
         plan,
-        records,
-        &mut levels,
-    );
-    let limit = n as usize;
-    run_plan(
-        strategy,
-        survey,
-        bits,
-        limit,
-        pairs,
-        values,
-        input,
-        plan,
-        &levels,
         records,
         cache,
         nodes,
         log,
         out,
-    );
-    KeyedAnswer::Is {
-        switches: ring::least(limit, survey.switches),
-        finished: survey.switches <= limit,
-        babies: survey.babies as u32,
-        giants: survey.giants as u32,
-        diagonals: count as u32,
-        pairs: survey.pairs,
-    }
+    )
 }

@@ -25,7 +25,20 @@ pub extern "C" fn sibukyaran_evaluate_keyed(
 {
     let how = crate::kinds::strategy_of(strategy, giant_step);
     let a = runs::keyed::evaluate_keyed(
-        slots, count, pairs, values, input, how, held, n, plan, records, cache, nodes, log, out,
+        slots,
+        count,
+        pairs,
+        values,
+        input,
+        how,
+        held,
+        n,
+        plan,
+        records,
+        cache,
+        nodes,
+        log,
+        out,
     );
     crate::keyed_of(a)
 }

@@ -74,16 +74,6 @@ pub record Sized (r : Survey) (slots : ℕ) : Type 0 where
   pub giants-low : r .giants ≤ 65536
   pub diagonals-low : r .diagonals ≤ 65536
 
-abbrev pub surveyRoom : Survey → ℕ → ℕ → ℕ → ℕ → ℕ → ℕ → ℕ → List (Bool × ℕ)
-surveyRoom r slots plan records cache nodes log out =
-    (ltb plan (r .babies + 3 * r .giants + r .diagonals), 12)
-    ∷ (ltb records (2 * r .pairs), 12)
-    ∷ (ltb cache ((r .babies - 1) * slots), 12)
-    ∷ (ltb nodes (r .giants * slots), 12)
-    ∷ (ltb log (r .switches), 12)
-    ∷ (ltb out slots, 12)
-    ∷ []
-
 -- ---- plan, records and levels
 
 pub record PlanAsked (slots : ℕ) (strategy : LinearTransformationStrategy) (ks plan records levels : List ℕ) : Type 0 where
