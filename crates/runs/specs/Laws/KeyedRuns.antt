@@ -224,7 +224,7 @@ module _ {slots count : ℕ} {pairs values input : List ℕ} {strategy : LinearT
     run-answer = k .answer ∙ ap (λ (e : ℕ). keyedAnswered e slots strategy (view count pairs values) n) ok
 
     pub run-left : new ≡ keyedLeft slots strategy (view count pairs values) input old n
-    run-left = k .lent ∙ onAccept-accepted _ _ _ ok
+    run-left = k .words ∙ onAccept-accepted _ _ _ ok
 
     pub run-logged : new .log ≡ inFront (map rotationOf (take n (schedule slots strategy (offsetsOf (view count pairs values))))) (old .log)
     unfolding keyedLeft
@@ -245,7 +245,7 @@ module _ {slots count : ℕ} {pairs values input : List ℕ} {strategy : LinearT
 
   -- a refused one leaves all as it was
   pub run-refused : (keyedRefusal slots count pairs values input strategy held old ≡ 0 → ⊥) → new ≡ old
-  run-refused h = k .lent ∙ onAccept-refused _ _ _ h
+  run-refused h = k .words ∙ onAccept-refused _ _ _ h
 
   -- the answer 11
   pub run-missing : firstOf (mapRefusals slots count pairs values ++ (widthOutside strategy, 3) ∷ (not (eqb (length input) slots), 7) ∷ []) ≡ 0 → r ≡ Refused 11
