@@ -1,1 +1,3 @@
+pub mod Empty
+pub mod Logs
 pub mod Examples
