@@ -5,16 +5,11 @@ use crate::showing::show_answer;
 use crate::showing::show_listed;
 use crate::showing::show_narrow_out;
 use crate::showing::show_next;
-use crate::showing::show_two;
+use crate::showing::show_three;
 use crate::words::Head;
 use crate::words::narrow_lent;
 use crate::words::rest;
 use crate::words::signed_front;
-
-fn show_three(a: u64, b: u64, c: u64) {
-    show_two(a, b);
-    show_next(c);
-}
 
 fn show_four(a: u64, b: u32, c: u32, d: u32) {
     show_three(a, b as u64, c as u64);

@@ -1,7 +1,7 @@
 // The numbers of the text on standard input.
 
 // Zeros stay behind the text.
-pub(crate) fn read_text(text: &mut [u8; 262144]) {
+pub(crate) fn read_text(text: &mut [u8; 524288]) {
     io::read_full(0, text);
 }
 
@@ -30,10 +30,10 @@ fn index_past(n: usize, digit: u8) -> usize {
 }
 
 // `numbers` holds zeros before.
-pub(crate) fn read_numbers(text: &[u8; 262144], numbers: &mut [u64; 131072]) {
+pub(crate) fn read_numbers(text: &[u8; 524288], numbers: &mut [u64; 262144]) {
     let mut n = 0;
-    for i in 0..262144 {
-        if n > 131071 {
+    for i in 0..524288 {
+        if n > 262143 {
             return;
         }
         let digit = std::num::wrapping_sub_u8(text[i], b'0');

@@ -20,6 +20,11 @@ pub(crate) fn show_two(a: u64, b: u64) {
     show_next(b);
 }
 
+pub(crate) fn show_three(a: u64, b: u64, c: u64) {
+    show_two(a, b);
+    show_next(c);
+}
+
 pub(crate) fn show_answer(a: ring::Answer) {
     match a {
         ring::Answer::Refused(e) => show_two(e as u64, 0),

@@ -16,7 +16,7 @@ pub struct Sample {
 }
 
 /// What crates/replay has room for.
-const LONGEST_TEXT: usize = 262_144;
+const LONGEST_TEXT: usize = 524_288;
 
 impl Sample {
     pub fn call(&mut self, code: u64, words: &[u64], answer: &[u64]) {

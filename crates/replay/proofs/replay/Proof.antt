@@ -8,7 +8,7 @@ abbrev Inv-loop : tie.InvT-loop
 Inv-loop numbers at₀ turn₀ at turn = Unit
 
 abbrev μ-loop : tie.MeasureT-loop
-μ-loop numbers at₀ turn₀ at turn = 131072 - turn
+μ-loop numbers at₀ turn₀ at turn = 262144 - turn
 
 loop-holds : tie.Need-loop-holds Inv-loop μ-loop
 loop-holds c = search needs

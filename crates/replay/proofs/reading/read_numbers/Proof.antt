@@ -8,7 +8,7 @@ abbrev Inv-loop : tie.InvT-loop
 Inv-loop text numbers₀ n₀ i₀ numbers n i = Unit
 
 abbrev μ-loop : tie.MeasureT-loop
-μ-loop text numbers₀ n₀ i₀ numbers n i = 262144 - i
+μ-loop text numbers₀ n₀ i₀ numbers n i = 524288 - i
 
 loop-holds : tie.Need-loop-holds Inv-loop μ-loop
 loop-holds c = search needs
