@@ -4,7 +4,7 @@ use Prim.Native.Nat.{ℕ, _≤_}
 use mathlib.Core.Path.{_≡_, refl, sym, ap, _∙_}
 use mathlib.Core.List.{List, [], _∷_, map}
 use native.Mathlib.Omega.{arith}
-use lib.ListN.{length, take, length-map}
+use lib.ListN.{length, length-map}
 use lib.Seq.{take-all}
 use Rattle.ring.specs.Slots.{modulus}
 use Rattle.ring.specs.Vectors.{inFront}
@@ -19,7 +19,7 @@ use Rattle.linear_transformation.specs.Closures.{topBit, cleared, metIn, closur
 use Rattle.linear_transformation.specs.Trees.{there, nodes, pairsAt, levelsOf, treeOf}
 use Rattle.linear_transformation.specs.Digits.{digit, within, allWithin, largest, bitsOf, levelDigit, levelRotation}
 use Rattle.linear_transformation.specs.Schedules.{babyStep, babyMultiples, planBabies, planTree}
-use Rattle.runs.specs.Switches.{Switch, baby, pair, fromInput, fromCache, none, at, rotationOf, planPasses, nodePlace, babySchedule, giantSchedule, schedule}
+use Rattle.runs.specs.Switches.{baby, pair, fromInput, fromCache, none, at, rotationOf, planPasses, nodePlace, babySchedule, giantSchedule, schedule}
 use Rattle.runs.specs.Machines.{State, machine}
 use Rattle.runs.specs.Laws.Finished.{machine-log}
 use Rattle.bench_examples.specs.BenchExamples.{e6Diagonals}

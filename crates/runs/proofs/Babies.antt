@@ -2,20 +2,19 @@
 -- Assumes nothing.
 use Prim.Native.Nat.{ℕ, zero, suc, _+_, _-_, _*_, _/_, _^_, _≤_, _<_}
 use mathlib.Core.Path.{_≡_, refl, sym, ap, _∙_}
-use mathlib.Core.Bool.{true, false, cond}
-use mathlib.Core.List.{List, [], _∷_, _++_}
-use native.Mathlib.Nat.{one-mul, dvd-refl, pow-suc, pow-zero, mul-comm, mul-assoc, le-div-iff-mul-le, div-lt-iff-lt-mul}
+use mathlib.Core.Bool.{true}
+use mathlib.Core.List.{List, _∷_, _++_}
+use native.Mathlib.Nat.{one-mul, dvd-refl, pow-suc, mul-comm, mul-assoc, le-div-iff-mul-le, div-lt-iff-lt-mul}
 use native.Mathlib.Decide.{decLt, ℕ-discrete}
 use native.Mathlib.Omega.{arith}
 use borrow.Author.Tests.{ne-eqb}
-use lib.Dec.{eqb}
 use mir.Val.{toZ}
 use mir.ValLaws.{toZ-pos}
 use mir.Syntax.{w64}
 use lib.IntN.{ℤ, pos}
 use lib.ListN.{length, getD, set, take, drop, length-drop, length-set}
 use lib.Seq.{length-take-le}
-use Rattle.ring.specs.Lists.{among, Each, Rising}
+use Rattle.ring.specs.Lists.{among}
 use Rattle.ring.specs.Vectors.{tabulate, inFront, putAt}
 use Rattle.ring.specs.Laws.Vectors.{length-tabulate, tabulate-more, inFront-more}
 use Rattle.ring.specs.Rotations.{rotated}
@@ -24,7 +23,7 @@ use Rattle.ring.specs.Laws.Rotations.{length-rotated}
 use Rattle.ring.specs.Laws.Divisors.{divides-yes}
 use Rattle.ring.specs.Laws.Refusals.{not-outside, onAccept-accepted}
 use Rattle.diagonals.specs.Calls.{Rotated}
-use Rattle.linear_transformation.specs.Closures.{topBit, nonzeros}
+use Rattle.linear_transformation.specs.Closures.{nonzeros}
 use Rattle.linear_transformation.specs.Laws.Closures.{top-unique}
 use Rattle.runs.specs.Switches.{placeOf, sourceOf, rotationOf}
 use Rattle.runs.specs.Machines.{vectorAt, putVector, turned, sourceVector}

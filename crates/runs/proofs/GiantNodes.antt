@@ -1,21 +1,18 @@
 -- The nodes of the giants, one vector after the other.
 -- Assumes nothing.
-use Prim.Native.Nat.{ℕ, zero, suc, _+_, _-_, _*_, _≤_, _<_}
+use Prim.Native.Nat.{ℕ, suc, _+_, _-_, _*_, _≤_, _<_}
 use mathlib.Core.Path.{_≡_, refl, sym, ap, _∙_}
 use mathlib.Core.List.{List, [], _∷_, _++_, append-nil, append-assoc}
-use native.Mathlib.Nat.{mul-le-mul-right, suc-mul, mul-zero, zero-mul}
-use native.Mathlib.Decide.{ℕ-discrete}
+use native.Mathlib.Nat.{mul-le-mul-right, suc-mul}
 use native.Mathlib.Omega.{arith}
 use lib.ListN.{length, getD, take, drop, length-append, length-take, length-drop}
 use lib.Seq.{take-at, drop-at, drop-drop}
-use Rattle.ring.specs.Slots.{modulus}
 use Rattle.ring.specs.Lists.{join}
 use Rattle.ring.specs.Vectors.{tabulate, inFront}
 use Rattle.ring.specs.Laws.Lists.{join-append, length-join}
 use Rattle.ring.specs.Laws.Vectors.{length-tabulate, tabulate-more, length-inFront}
 use Rattle.diagonals.specs.Maps.{startAt}
-use Rattle.runs.specs.Steps.Keyed.{nodeRun}
-use Rattle.runs.specs.Steps.Nodes.{GiantRun, GiantAsked, NodeMade, NodesAsked, nodeSlot, firstNodes, NodesMade}
+use Rattle.runs.specs.Steps.Nodes.{GiantAsked, NodeMade, NodesAsked, nodeSlot, firstNodes, NodesMade}
 
 -- words put behind those in front
 behind : (xs ys old : List ℕ) (n k : ℕ) → length xs ≡ n → length ys ≡ k → take n (inFront xs old) ++ (ys ++ drop k (drop n (inFront xs old))) ≡ inFront (xs ++ ys) old

@@ -1,14 +1,14 @@
 -- The node of a giant: its diagonals added one after the other, and the sum turned back.
 -- Assumes nothing.
-use Prim.Native.Nat.{ℕ, zero, suc, _+_, _-_, _*_, _%_, _≤_, _<_}
+use Prim.Native.Nat.{ℕ, zero, suc, _+_, _-_, _%_, _≤_, _<_}
 use mathlib.Core.Path.{_≡_, refl, sym, ap, _∙_}
 use mathlib.Core.Bool.{true}
-use mathlib.Core.List.{List, [], _∷_, _++_}
-use native.Mathlib.Nat.{add-zero, add-comm, mod-lt, mod-eq-of-lt, add-mod-mod, mod-add-mod, add-mod-right}
+use mathlib.Core.List.{List}
+use native.Mathlib.Nat.{add-zero, mod-lt, mod-eq-of-lt, add-mod-mod, mod-add-mod, add-mod-right}
 use native.Mathlib.Omega.{arith}
 use lib.IntN.{pos}
 use lib.ListN.{length, getD, take, drop, length-take, length-drop}
-use Rattle.ring.specs.Slots.{modulus, addm, mulm}
+use Rattle.ring.specs.Slots.{modulus, addm}
 use Rattle.ring.specs.Lists.{sumBy, among}
 use Rattle.ring.specs.Vectors.{tabulate}
 use Rattle.ring.specs.Rotations.{rotated}
@@ -17,16 +17,16 @@ use Rattle.ring.specs.Laws.Slots.{mulm-comm}
 use Rattle.ring.specs.Laws.Lists.{sumBy-snoc, sumBy-cong}
 use Rattle.ring.specs.Laws.Vectors.{length-tabulate, getD-tabulate, tabulate-cong, tabulate-more}
 use Rattle.ring.specs.Laws.Residues.{residue-pos}
-use Rattle.diagonals.specs.Maps.{lengthAt, offsetAt, startAt, diagonalAt, WellFormed}
+use Rattle.diagonals.specs.Maps.{lengthAt, offsetAt, startAt, diagonalAt}
 use Rattle.diagonals.specs.Products.{term}
 use Rattle.diagonals.specs.Laws.Maps.{start-more, values-end, stored-some}
 use Rattle.linear_transformation.specs.Closures.{nonzeros}
 use Rattle.runs.specs.Switches.{placeOf, sourceOf}
-use Rattle.runs.specs.Machines.{vectorAt, sourceVector}
+use Rattle.runs.specs.Machines.{sourceVector}
 use Rattle.runs.specs.Laws.Places.{inside-first, length-vectorAt}
 use Rattle.runs.specs.Steps.Plain.{diagonalAdded, Repeated}
 use Rattle.runs.specs.Steps.Keyed.{Babies, Reading, nodeTerm, nodeRun}
-use Rattle.runs.specs.Steps.Nodes.{GiantRun, GiantAsked, Summing, turnedTerm, turnedRun, DiagonalsAdded, NodeMade}
+use Rattle.runs.specs.Steps.Nodes.{GiantAsked, Summing, turnedTerm, turnedRun, DiagonalsAdded, NodeMade}
 use Rattle.runs.proofs.Babies.{place-within}
 
 -- a rotated input is as long as the input

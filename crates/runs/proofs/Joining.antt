@@ -1,49 +1,25 @@
 -- The giant switches: the loop over the giants, the search for a level and for a node's place, a pair, and the loop over pairs.
 -- Assumes nothing.
-use Prim.Native.Nat.{ℕ, zero, suc, _+_, _-_, _*_, _/_, _%_, _^_, _≤_, _<_}
-use mathlib.Core.Path.{_≡_, refl, sym, ap, subst, _∙_}
-use mathlib.Core.Bool.{Bool, true, false, cond, not}
-use mathlib.Core.List.{List, [], _∷_, _++_, map}
-use native.Mathlib.Nat.{mod-eq-of-lt, le-of-lt, mul-le-mul-right, le-div-iff-mul-le, div-lt-iff-lt-mul, zero-add, add-comm}
-use native.Mathlib.Decide.{decLt, ℕ-discrete}
+use Prim.Native.Nat.{ℕ, suc, _+_, _-_, _*_, _≤_, _<_}
+use mathlib.Core.Path.{_≡_, refl, sym, ap, _∙_}
+use mathlib.Core.Bool.{cond}
+use mathlib.Core.List.{List, [], _∷_}
+use native.Mathlib.Nat.{zero-add}
 use native.Mathlib.Omega.{arith}
-use borrow.Author.Tests.{lt-ltb, le-ltb, eq-eqb}
-use lib.Dec.{ltb, eqb}
-use lib.Pow.{pow-pos}
-use lib.ListN.{length, getD, set, take, drop, length-map, length-drop, length-set}
+use borrow.Author.Tests.{lt-ltb, le-ltb}
+use lib.Dec.{ltb}
+use lib.ListN.{length, getD, set, drop, length-drop}
 use lib.Seq.{getD-drop, drop-drop}
-use mir.Val.{toZ, ofZ, SFits}
-use mir.ValLaws.{toZ-pos, toZ-ofZ}
-use mir.Syntax.{w64}
-use lib.IntN.{ℤ, pos}
-use lib.Signed.{mag}
 use Rattle.ring.specs.Slots.{modulus}
-use Rattle.ring.specs.Lists.{Each, Rising}
-use Rattle.ring.specs.Refusals.{firstOf, Range, outside}
-use Rattle.ring.specs.Residues.{residueOf}
-use Rattle.ring.specs.Vectors.{tabulate, putAt}
+use Rattle.ring.specs.Vectors.{tabulate}
 use Rattle.ring.specs.Laws.Lists.{each-at}
-use Rattle.ring.specs.Laws.Vectors.{length-tabulate}
-use Rattle.ring.specs.Laws.Refusals.{not-outside}
-use Rattle.ring.specs.Laws.Residues.{residue-pos}
-use Rattle.ring.specs.Laws.Divisors.{divides-yes}
-use Rattle.linear_transformation.specs.declared.digits.DigitAnswer.{DigitAnswer}
-use Rattle.linear_transformation.specs.declared.digits.DigitAnswer.the-variants.{Refused, Is}
-use Rattle.linear_transformation.specs.declared.digits.Digit.{Digit}
-use Rattle.linear_transformation.specs.Digits.{digit, rotOf, Giant}
-use Rattle.linear_transformation.specs.Calls.{digitRefusal, digitAnswered}
-use Rattle.linear_transformation.specs.Laws.Bits.{digit-small}
-use Rattle.linear_transformation.specs.Trees.{there}
-use Rattle.runs.specs.Switches.{Switch, giant, nodePlace, rotationOf}
+use Rattle.runs.specs.Switches.{Switch, giant, rotationOf}
 use Rattle.runs.specs.Machines.{nodesAfter, putVector, turned, vectorAt}
-use Rattle.runs.specs.Laws.Places.{Inside, inside-first, length-putVector}
-use Rattle.runs.specs.Laws.NodePlaces.{NodeFirst, node-first, node-before, rising-at}
-use Rattle.runs.specs.Laws.Turnings.{length-summed}
+use Rattle.runs.specs.Laws.Places.{inside-first, length-putVector}
 use Rattle.runs.specs.Laws.Folds.{nodes-more}
-use Rattle.runs.specs.Laws.Elements.{mapped-at}
 use Rattle.ring.specs.Laws.Rotations.{length-rotated}
-use Rattle.runs.specs.Steps.Keyed.{nodesBy, TurnAsked, AddTurn}
-use Rattle.runs.specs.Steps.Giants.{turnAt, TurnsAsked, GiantsTurned, levelIn, leafBy, leavesBy, LeafAsked, Leafy, NodeAsked, RecordAsked, pairIn, joinAt, PairAsked, PairJoined, PairsAsked, PairsJoined}
+use Rattle.runs.specs.Steps.Keyed.{nodesBy, TurnAsked}
+use Rattle.runs.specs.Steps.Giants.{turnAt, TurnsAsked, GiantsTurned, levelIn, joinAt, PairAsked, PairsAsked, PairsJoined}
 use Rattle.runs.proofs.Putting.{Putting, putting-none, putting-more, putting-done}
 
 -- ---- switches and what they log, one after the other

@@ -1,17 +1,17 @@
 -- The keyed run: its refusals, and what an accepted call asks of its parts and leaves.
 -- Assumes nothing.
-use Prim.Native.Nat.{ℕ, zero, suc, _+_, _-_, _*_, _≤_, _<_, min}
+use Prim.Native.Nat.{ℕ, zero, suc, _+_, _-_, _*_, _≤_, min}
 use mathlib.Core.Path.{_≡_, refl, sym, ap, _∙_}
-use mathlib.Core.Bool.{Bool, true, false, not}
+use mathlib.Core.Bool.{Bool, false, not}
 use mathlib.Core.List.{List, [], _∷_, _++_}
 use native.Mathlib.Nat.{suc-ne-zero}
 use native.Mathlib.Omega.{arith}
 use borrow.Author.Tests.{ltb-false}
-use lib.Dec.{eqb, leb, ltb}
+use lib.Dec.{eqb}
 use lib.ListN.{length, take, drop}
 use lib.Seq.{take-at}
 use Rattle.ring.specs.Lists.{Each}
-use Rattle.ring.specs.Refusals.{firstOf, onAccept, Range}
+use Rattle.ring.specs.Refusals.{firstOf}
 use Rattle.ring.specs.Vectors.{inFront}
 use Rattle.ring.specs.Laws.Refusals.{first-refused, first-later, none-holds}
 use Rattle.diagonals.specs.Maps.{offsetsOf, offsetAt, view}
@@ -20,19 +20,19 @@ use Rattle.diagonals.specs.Laws.Maps.{length-view, offsets-view, count-low}
 use Rattle.ring.specs.Laws.Vectors.{length-tabulate}
 use Rattle.linear_transformation.specs.declared.LinearTransformationStrategy.{LinearTransformationStrategy}
 use Rattle.linear_transformation.specs.Strategies.{widthOutside}
-use Rattle.linear_transformation.specs.Plans.{Distinct, Planned, widthOf}
-use Rattle.linear_transformation.specs.Schedules.{planBabies, planGiants, planWords, planKeys, planSwitches}
-use Rattle.linear_transformation.specs.Stored.{isMissing, pairCount, planRecords, planLevels}
+use Rattle.linear_transformation.specs.Plans.{Planned, widthOf}
+use Rattle.linear_transformation.specs.Schedules.{planBabies, planGiants, planWords, planKeys}
+use Rattle.linear_transformation.specs.Stored.{isMissing, pairCount, planRecords}
 use Rattle.linear_transformation.specs.Laws.Plans.{width-positive, words-length}
 use Rattle.linear_transformation.specs.Laws.Stored.{records-length}
 use Rattle.runs.specs.declared.keyed.Survey.{Survey}
 use Rattle.runs.specs.declared.keyed.KeyedAnswer.{KeyedAnswer}
-use Rattle.runs.specs.declared.keyed.KeyedAnswer.the-variants.{Refused, Is}
-use Rattle.runs.specs.Keyed.{Lent, lent, lentState, keyedRoom, keyedRefusal, keyedAnswered, keyedLeft, KeyedRun}
+use Rattle.runs.specs.declared.keyed.KeyedAnswer.the-variants.{Refused}
+use Rattle.runs.specs.Keyed.{Lent, lent, keyedRoom, keyedRefusal, keyedAnswered, keyedLeft, KeyedRun}
 use Rattle.runs.specs.Laws.NodeRuns.{map-planned}
-use Rattle.runs.specs.Steps.Surveys.{surveyRefusal, takes, Taken, Surveyed, Sized, PlanAsked, bitsBy, PlanLeft}
+use Rattle.runs.specs.Steps.Surveys.{takes, Taken, Surveyed, Sized, PlanAsked, PlanLeft}
 use Rattle.runs.specs.Steps.Ready.{surveyRoom, Ready, Small, answeredBy}
-use Rattle.runs.specs.Steps.Runs.{RunAsked, leftBy, RunLeft}
+use Rattle.runs.specs.Steps.Runs.{RunAsked, RunLeft}
 use Rattle.runs.proofs.Running.{sized}
 
 -- ---- an accepted run

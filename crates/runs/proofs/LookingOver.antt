@@ -3,19 +3,19 @@
 use Prim.Native.Nat.{ℕ, zero, suc, _≤_, min}
 use mathlib.Core.Path.{_≡_, refl, sym, ap, _∙_}
 use mathlib.Core.Bool.{Bool, true, false, not}
-use mathlib.Core.List.{List, [], _∷_, _++_}
+use mathlib.Core.List.{List, [], _∷_}
 use native.Mathlib.Nat.{suc-ne-zero}
 use native.Mathlib.Omega.{arith}
 use borrow.Author.Tests.{eq-eqb, ne-eqb, le-ltb}
 use lib.Dec.{eqb, ltb}
 use lib.ListN.{length, take, drop}
 use lib.Seq.{take-at}
-use Rattle.ring.specs.Vectors.{tabulate, inFront}
-use Rattle.ring.specs.Refusals.{pick, firstOf, onAccept, Range}
+use Rattle.ring.specs.Vectors.{inFront}
+use Rattle.ring.specs.Refusals.{firstOf, Range}
 use Rattle.ring.specs.Laws.Refusals.{not-outside, onAccept-accepted}
 use Rattle.ring.specs.Laws.Vectors.{length-tabulate, length-inFront}
 use Rattle.ring.specs.declared.Answer.{Answer}
-use Rattle.diagonals.specs.Maps.{offsetsOf, offsetAt, view, WellFormed}
+use Rattle.diagonals.specs.Maps.{offsetsOf, offsetAt, view}
 use Rattle.diagonals.specs.Calls.{mapRefusal, Judged, Indexes}
 use Rattle.diagonals.specs.Laws.Calls.{then-refused, then-later}
 use Rattle.diagonals.specs.Laws.Maps.{offsets-view, count-low}
@@ -26,7 +26,7 @@ use Rattle.linear_transformation.specs.declared.stored.NeedsAnswer.the-variants
 use Rattle.linear_transformation.specs.Strategies.{widthOutside}
 use Rattle.linear_transformation.specs.Plans.{Distinct}
 use Rattle.linear_transformation.specs.Schedules.{planKeys}
-use Rattle.linear_transformation.specs.Stored.{isMissing, storedRefusals, needsRefusal, planNeeds}
+use Rattle.linear_transformation.specs.Stored.{isMissing, needsRefusal, planNeeds}
 use Rattle.linear_transformation.specs.Laws.Stored.{distinct-rise}
 use Rattle.runs.specs.declared.keyed.Survey.{Survey}
 use Rattle.runs.specs.Laws.Plans.{map-distinct}

@@ -1,18 +1,17 @@
 -- The whole run: its baby switches alone, or with all that follows them, leave what the machine leaves after n switches.
 -- Assumes nothing.
-use Prim.Native.Nat.{ℕ, zero, suc, _+_, _-_, _*_, _≤_, _<_, min}
+use Prim.Native.Nat.{ℕ, zero, suc, _+_, _-_, _≤_, _<_, min}
 use mathlib.Core.Path.{_≡_, refl, sym, ap, _∙_}
 use mathlib.Core.Bool.{Bool, true, false, cond}
 use mathlib.Core.List.{List, [], _∷_, _++_, map, map-append}
-use native.Mathlib.Nat.{not-suc-le-zero}
 use native.Mathlib.Omega.{arith}
 use borrow.Author.Tests.{lt-ltb, le-ltb}
 use lib.Dec.{ltb}
-use lib.ListN.{length, take, drop, length-map, length-append}
-use lib.Seq.{take-all, take-append-add, take-append-le, length-take-le}
+use lib.ListN.{length, take, length-map, length-append}
+use lib.Seq.{take-all, take-append-add, take-append-le}
 use Rattle.ring.specs.Slots.{modulus}
 use Rattle.ring.specs.Lists.{Each}
-use Rattle.ring.specs.Vectors.{tabulate, inFront, putAt}
+use Rattle.ring.specs.Vectors.{inFront, putAt}
 use Rattle.diagonals.specs.Maps.{Diagonal, offsetsOf, view}
 use Rattle.linear_transformation.specs.declared.LinearTransformationStrategy.{LinearTransformationStrategy}
 use Rattle.linear_transformation.specs.Closures.{nonzeros}
@@ -25,7 +24,7 @@ use Rattle.runs.specs.Laws.Folds.{cache-by, nodes-by}
 use Rattle.runs.specs.Laws.Finished.{machine-log}
 use Rattle.runs.specs.Laws.PassSchedules.{baby-count}
 use Rattle.runs.specs.Steps.Keyed.{cacheBy, nodesBy, Caching, BabiesMade}
-use Rattle.runs.specs.Steps.Runs.{RunAsked, turnedNodes, GiantsLeft, leftBy, RunLeft}
+use Rattle.runs.specs.Steps.Runs.{RunAsked, GiantsLeft, RunLeft}
 use Rattle.runs.proofs.FromBabies.{caching-of, babies-by, babies-logged}
 use Rattle.runs.proofs.Putting.{put-both}
 use Rattle.runs.proofs.Running.{take-least, babies-are, step-is, own-switches, all-switches, babies-part}

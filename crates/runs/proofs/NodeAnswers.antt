@@ -2,8 +2,8 @@
 -- Assumes nothing.
 use Prim.Native.Nat.{ℕ, zero, suc, _+_, _-_, _*_, _%_, _≤_, _<_}
 use mathlib.Core.Path.{_≡_, refl, sym, ap, _∙_}
-use mathlib.Core.List.{List, [], _∷_, _++_}
-use native.Mathlib.Nat.{dvd-refl, mul-le-mul-right, suc-mul, one-mul}
+use mathlib.Core.List.{List}
+use native.Mathlib.Nat.{dvd-refl, mul-le-mul-right, one-mul}
 use native.Mathlib.Omega.{arith}
 use lib.IntN.{pos}
 use lib.ListN.{length, getD, take, drop}
@@ -19,8 +19,8 @@ use Rattle.ring.specs.Laws.Divisors.{divides-yes}
 use Rattle.ring.specs.Laws.Refusals.{not-outside, onAccept-accepted}
 use Rattle.diagonals.specs.Calls.{Rotated}
 use Rattle.runs.specs.Machines.{vectorAt, nodeSum}
-use Rattle.runs.specs.Laws.Places.{Inside, inside-first}
-use Rattle.runs.specs.Steps.Runs.{vectorAdded, AnswerAsked, topBy, answerBy}
+use Rattle.runs.specs.Laws.Places.{inside-first}
+use Rattle.runs.specs.Steps.Runs.{vectorAdded, AnswerAsked, answerBy}
 
 -- a word that the loop adds
 pub added-slot : (v : List ℕ) {old new : List ℕ} {s : ℕ} → Filling (vectorAdded v old) old new s → (getD new s 0 + getD v s 0) % modulus ≡ vectorAdded v old s

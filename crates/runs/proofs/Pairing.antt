@@ -1,9 +1,9 @@
 -- A pair of the tree: the leaves of the giants, the search for a node's place, and the switch.
 -- Assumes nothing.
-use Prim.Native.Nat.{ℕ, suc, _+_, _-_, _*_, _/_, _%_, _^_, _≤_, _<_}
-use mathlib.Core.Path.{_≡_, refl, sym, ap, subst, _∙_}
-use mathlib.Core.Bool.{Bool, true, false, cond, not}
-use mathlib.Core.List.{List, [], _∷_, map}
+use Prim.Native.Nat.{ℕ, _+_, _-_, _*_, _%_, _^_, _≤_, _<_}
+use mathlib.Core.Path.{_≡_, sym, ap, subst, _∙_}
+use mathlib.Core.Bool.{true, false, not}
+use mathlib.Core.List.{List}
 use native.Mathlib.Nat.{mod-eq-of-lt, mul-le-mul-right, le-div-iff-mul-le, div-lt-iff-lt-mul}
 use native.Mathlib.Decide.{decLt, ℕ-discrete}
 use native.Mathlib.Omega.{arith}
@@ -15,9 +15,7 @@ use mir.Val.{toZ, ofZ}
 use mir.ValLaws.{toZ-pos, toZ-ofZ}
 use mir.Syntax.{w64}
 use lib.IntN.{ℤ, pos}
-use lib.Signed.{mag}
 use Rattle.ring.specs.Slots.{modulus}
-use Rattle.ring.specs.Lists.{Each, Rising}
 use Rattle.ring.specs.Residues.{residueOf}
 use Rattle.ring.specs.Laws.Lists.{each-at}
 use Rattle.ring.specs.Laws.Refusals.{not-outside}
@@ -29,7 +27,6 @@ use Rattle.linear_transformation.specs.declared.digits.Digit.{Digit}
 use Rattle.linear_transformation.specs.Digits.{digit, rotOf, Giant}
 use Rattle.linear_transformation.specs.Calls.{digitRefusal, digitAnswered}
 use Rattle.linear_transformation.specs.Laws.Bits.{digit-small}
-use Rattle.linear_transformation.specs.Trees.{there}
 use Rattle.runs.specs.Switches.{nodePlace}
 use Rattle.runs.specs.Machines.{putVector, turned, summed, vectorAt}
 use Rattle.runs.specs.Laws.Places.{inside-first, length-putVector}
@@ -38,7 +35,7 @@ use Rattle.runs.specs.Laws.Turnings.{length-summed}
 use Rattle.runs.specs.Laws.Elements.{mapped-at}
 use Rattle.runs.specs.Steps.Keyed.{TurnAsked, AddTurn}
 use Rattle.runs.proofs.TwoRuns.{apart}
-use Rattle.runs.specs.Steps.Giants.{levelIn, leafBy, leavesBy, LeafAsked, Leafy, NodeAsked, RecordAsked, joinAt, PairAsked, PairJoined}
+use Rattle.runs.specs.Steps.Giants.{levelIn, leafBy, leavesBy, LeafAsked, NodeAsked, RecordAsked, PairAsked, PairJoined}
 
 -- ---- leaves
 

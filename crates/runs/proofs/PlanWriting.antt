@@ -1,7 +1,7 @@
 -- Plan, records and levels of an accepted map, where there is room for them; and numbers that stay small.
 -- Assumes nothing.
-use Prim.Native.Nat.{ℕ, _+_, _*_, _≤_, _<_}
-use mathlib.Core.Path.{_≡_, refl, sym, ap, _∙_}
+use Prim.Native.Nat.{ℕ, _*_, _≤_, _<_}
+use mathlib.Core.Path.{_≡_, refl, ap, _∙_}
 use mathlib.Core.Bool.{Bool}
 use mathlib.Core.List.{List, [], _∷_, _++_}
 use native.Mathlib.Nat.{mul-le-mul}
@@ -10,14 +10,13 @@ use borrow.Author.Tests.{le-ltb}
 use lib.Dec.{ltb}
 use Rattle.linear_transformation.specs.Schedules.{planWords}
 use lib.ListN.{length}
-use Rattle.ring.specs.Refusals.{firstOf, Range}
+use Rattle.ring.specs.Refusals.{firstOf}
 use Rattle.ring.specs.Laws.Refusals.{not-outside, onAccept-accepted}
 use Rattle.linear_transformation.specs.declared.LinearTransformationStrategy.{LinearTransformationStrategy}
 use Rattle.linear_transformation.specs.declared.LinearTransformationStrategy.the-variants.{Bsgs, BsgsPowersOfTwo, Direct}
 use Rattle.linear_transformation.specs.declared.plan.PlanAnswer.{PlanAnswer}
 use Rattle.linear_transformation.specs.declared.rotations.TreeAnswer.{TreeAnswer}
 use Rattle.linear_transformation.specs.declared.rotations.TreeAnswer.the-variants.{Refused, NoTree, Is}
-use Rattle.linear_transformation.specs.Strategies.{widthOutside}
 use Rattle.linear_transformation.specs.Plans.{widthOf}
 use Rattle.linear_transformation.specs.Laws.Plans.{width-positive}
 use Rattle.linear_transformation.specs.Stored.{storedPlanRefusal, StoredPlanWritten, storedRefusals, storedTreeRoom, storedTreeAnswered, StoredTreeWritten, planLevels, planRecords}

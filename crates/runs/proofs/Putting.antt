@@ -3,14 +3,12 @@
 use Prim.Native.Nat.{ℕ, suc, _+_, _≤_, _<_}
 use mathlib.Core.Path.{_≡_, refl, sym, ap, _∙_}
 use mathlib.Core.List.{List, [], _∷_, _++_, append-assoc}
-use native.Mathlib.Nat.{add-zero}
-use native.Mathlib.Decide.{decLt}
 use native.Mathlib.Omega.{arith}
 use lib.ListN.{length, getD, set, take, drop, take-append-drop, length-drop, length-append}
-use lib.Seq.{length-take-le, set-append-left, take-append-seam, drop-append-seam, drop-drop, drop-append-add, take-at, drop-at, ext-getD}
+use lib.Seq.{length-take-le, drop-drop, take-at, drop-at}
 use Rattle.ring.specs.Vectors.{tabulate, inFront, putAt}
-use Rattle.ring.specs.Laws.Vectors.{length-tabulate, getD-tabulate, tabulate-more, inFront-more}
-use Rattle.runs.specs.Laws.Places.{length-putAt, putAt-before, putAt-new, putAt-behind}
+use Rattle.ring.specs.Laws.Vectors.{length-tabulate, tabulate-more, inFront-more}
+use Rattle.runs.specs.Laws.Places.{length-putAt, putAt-before, putAt-behind}
 
 -- the j words f 0 .. f (j - 1) stand from place `at` on
 pub record Putting (f : ℕ → ℕ) (at : ℕ) (old new : List ℕ) (j : ℕ) : Type 0 where

@@ -1,8 +1,8 @@
 -- The loop that turns a vector round in place, and the rotation that three of them make.
 -- Assumes nothing.
-use Prim.Native.Nat.{ℕ, _+_, _-_, _*_, _/_, _%_, _≤_, _<_}
+use Prim.Native.Nat.{ℕ, _+_, _-_, _*_, _%_, _≤_, _<_}
 use mathlib.Core.Path.{_≡_, refl, sym, ap, _∙_}
-use mathlib.Core.Bool.{Bool, true, false, cond, _||_}
+use mathlib.Core.Bool.{cond, _||_}
 use mathlib.Core.List.{List, [], _++_, append-nil}
 use native.Mathlib.Nat.{mod-eq-of-lt, add-mod-right}
 use native.Mathlib.Decide.{ℕ-discrete, decLt}
@@ -10,7 +10,7 @@ use native.Mathlib.Omega.{arith}
 use borrow.Author.Tests.{lt-ltb, le-ltb}
 use lib.Dec.{ltb}
 use lib.IntN.{pos}
-use lib.ListN.{length, getD, set, take, drop, length-set, length-take, length-drop, length-append, drop-of-length-le, List·getD-append}
+use lib.ListN.{length, getD, set, take, drop, length-set, length-drop, length-append, drop-of-length-le, List·getD-append}
 use lib.Seq.{getD-set-same, getD-set-other, getD-take, getD-drop, getD-append-add, length-take-le, take-at, drop-at, take-all}
 use Rattle.ring.specs.Vectors.{tabulate}
 use Rattle.ring.specs.Residues.{residueOf}

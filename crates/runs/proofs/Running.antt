@@ -2,15 +2,13 @@
 -- Assumes nothing.
 use Prim.Native.Nat.{ℕ, zero, suc, _+_, _-_, _*_, _%_, _^_, _≤_, _<_, min}
 use mathlib.Core.Path.{_≡_, refl, sym, ap, _∙_}
-use mathlib.Core.Bool.{true, false, cond}
 use mathlib.Core.List.{List, [], _∷_, _++_, map}
-use native.Mathlib.Nat.{mod-eq-of-lt, one-mul, mul-le-mul-right}
+use native.Mathlib.Nat.{mod-eq-of-lt, one-mul}
 use native.Mathlib.Decide.{decLt}
 use native.Mathlib.Omega.{arith}
 use borrow.Author.Tests.{lt-ltb, le-ltb}
-use lib.Dec.{ltb}
 use lib.Pow.{pow-lt}
-use lib.ListN.{length, take, drop, length-append}
+use lib.ListN.{length, take, drop}
 use lib.Seq.{take-all, length-take-le}
 use Rattle.ring.specs.Slots.{modulus}
 use Rattle.ring.specs.Lists.{join}
@@ -23,13 +21,13 @@ use Rattle.linear_transformation.specs.declared.LinearTransformationStrategy.th
 use Rattle.linear_transformation.specs.Plans.{Distinct, Planned, widthOf, giants, planPairs}
 use Rattle.linear_transformation.specs.Closures.{nonzeros}
 use Rattle.linear_transformation.specs.Schedules.{planBabies, planGiants, planWords, planTree, planSwitches}
-use Rattle.linear_transformation.specs.Stored.{stepOf, planLevels, planRecords}
+use Rattle.linear_transformation.specs.Stored.{stepOf}
 use Rattle.linear_transformation.specs.Laws.Plans.{width-positive, words-length}
 use Rattle.linear_transformation.specs.Laws.Runs.{planned-length, giants-few}
 use Rattle.linear_transformation.specs.Laws.Stored.{tree-bits-low}
 use Rattle.diagonals.specs.Laws.Maps.{count-low}
 use Rattle.runs.specs.declared.keyed.Survey.{Survey}
-use Rattle.runs.specs.Switches.{Switch, rotationOf, babySchedule, giantSchedule}
+use Rattle.runs.specs.Switches.{rotationOf, babySchedule, giantSchedule}
 use Rattle.runs.specs.Machines.{nodeWords, answerOf}
 use Rattle.runs.specs.Laws.Answers.{length-answer}
 use Rattle.runs.specs.Laws.Caches.{cache-room}
@@ -37,7 +35,6 @@ use Rattle.runs.specs.Laws.NodeRuns.{map-planned}
 use Rattle.runs.specs.Laws.PassSchedules.{baby-count, giant-count}
 use Rattle.runs.specs.Laws.PlanWords.{babies-read, giants-read, pairs-read}
 use Rattle.runs.specs.Laws.Schedules.{plan-babies-front, plan-babies-rise, plan-babies-low}
-use Rattle.runs.specs.Steps.Keyed.{nodesBy}
 use Rattle.runs.specs.Steps.Giants.{GiantsTurned, PairsJoined}
 use Rattle.runs.specs.Steps.Nodes.{NodesAsked, NodesMade}
 use Rattle.runs.specs.Steps.Surveys.{takes, bitsBy, Taken, Sized}

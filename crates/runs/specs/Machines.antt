@@ -16,9 +16,8 @@ use Rattle.diagonals.specs.Products.{cell, stretch}
 use Rattle.linear_transformation.specs.declared.LinearTransformationStrategy.{LinearTransformationStrategy}
 use Rattle.linear_transformation.specs.declared.LinearTransformationStrategy.the-variants.{Bsgs, BsgsPowersOfTwo, Direct}
 use Rattle.linear_transformation.specs.Plans.{widthOf, babiesAt}
-use Rattle.linear_transformation.specs.Trees.{Tree}
 use Rattle.linear_transformation.specs.Schedules.{planBabies, planGiants, planTree}
-use Rattle.runs.specs.Switches.{Source, fromInput, fromCache, sourceOf, Even, none, at, Switch, baby, giant, pair, rotationOf, nodePlace, babySchedule, giantSchedule}
+use Rattle.runs.specs.Switches.{Source, fromInput, fromCache, sourceOf, none, at, Switch, baby, giant, pair, rotationOf, nodePlace, babySchedule, giantSchedule}
 
 -- ---- vectors
 

@@ -2,7 +2,7 @@
 -- writes. A cache vector stands per nonzero plan baby, rising, and a node vector per giant, rising.
 -- Assumes nothing.
 use Prim.Native.Nat.{ℕ, zero, suc, _+_, _*_, _-_}
-use mathlib.Core.Bool.{Bool, true, false, cond}
+use mathlib.Core.Bool.{cond}
 use mathlib.Core.List.{List, [], _∷_, _++_, map}
 use lib.Dec.{eqb}
 use Rattle.ring.specs.Lists.{join}

@@ -4,7 +4,7 @@ use Prim.Native.Nat.{ℕ, zero, suc, _+_, _*_, _-_, _%_, _≤_, _<_}
 use mathlib.Core.Path.{_≡_, refl, sym, ap, _∙_}
 use mathlib.Core.Bool.{true}
 use mathlib.Core.List.{List, [], _∷_, _++_, map}
-use native.Mathlib.Nat.{not-suc-le-zero, le-of-suc-le-suc, add-zero, add-assoc}
+use native.Mathlib.Nat.{not-suc-le-zero, le-of-suc-le-suc, add-zero}
 use native.Mathlib.Numerals.{add-one}
 use native.Mathlib.Omega.{arith}
 use lib.ListN.{length, getD, take, drop, length-map, length-append, take-append-drop, List·getD-append}
@@ -14,8 +14,8 @@ use Rattle.ring.specs.Vectors.{tabulate}
 use Rattle.ring.specs.Slots.{mulm}
 use Rattle.ring.specs.Laws.Lists.{join-append, each-at}
 use Rattle.ring.specs.Laws.Members.{among-each}
-use Rattle.ring.specs.Laws.Vectors.{getD-tabulate, length-tabulate, tabulate-getD}
-use Rattle.diagonals.specs.Maps.{Diagonal, offsetsOf, offsetAt, diagonalAt, view, WellFormed}
+use Rattle.ring.specs.Laws.Vectors.{getD-tabulate, tabulate-getD}
+use Rattle.diagonals.specs.Maps.{offsetsOf, offsetAt, diagonalAt, view, WellFormed}
 use Rattle.diagonals.specs.Products.{cell, stretch}
 use Rattle.diagonals.specs.Laws.Maps.{offsets-view, length-view, stretch-found}
 use Rattle.diagonals.specs.Laws.Words.{formed-view}

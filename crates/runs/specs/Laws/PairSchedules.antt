@@ -1,28 +1,20 @@
 -- Laws of the pairs of a tree's levels, by their places: the switch of each, its words, and where it is.
 -- Assumes nothing.
-use Prim.Native.Nat.{ℕ, zero, suc, _+_, _*_, _-_, _%_, _≤_, _<_}
-use mathlib.Core.Path.{_≡_, refl, sym, ap, _∙_}
-use mathlib.Core.Bool.{true, false}
-use mathlib.Core.Logic.{_⊎_, inl, inr}
-use mathlib.Core.List.{List, [], _∷_, _++_, map}
+use Prim.Native.Nat.{ℕ, suc, _+_, _*_, _-_, _≤_, _<_}
+use mathlib.Core.Path.{_≡_, sym, ap, _∙_}
+use mathlib.Core.Bool.{false}
+use mathlib.Core.List.{List, [], _∷_, map}
 use native.Mathlib.Nat.{not-suc-le-zero, add-zero}
 use native.Mathlib.Decide.{decLt}
 use native.Mathlib.Omega.{arith}
-use borrow.Author.Tests.{lt-ltb, le-ltb, eqb-true}
-use lib.Dec.{ltb, eqb}
+use borrow.Author.Tests.{lt-ltb, le-ltb}
 use lib.ListN.{length, getD, length-append, length-map, List·getD-append, List·getD-map}
-use Rattle.ring.specs.Lists.{join, Each}
-use Rattle.ring.specs.Searches.{below, only}
+use Rattle.ring.specs.Lists.{join}
 use Rattle.ring.specs.Vectors.{tabulate}
-use Rattle.ring.specs.Laws.Lists.{each-at, each-map}
-use Rattle.ring.specs.Laws.Members.{among-each, among-joined, only-yes, below-among}
-use Rattle.ring.specs.Laws.Residues.{residue-lt}
-use Rattle.ring.specs.Laws.Vectors.{length-tabulate, getD-tabulate, map-tabulate, is-tabulate}
+use Rattle.ring.specs.Laws.Vectors.{is-tabulate}
 use Rattle.linear_transformation.specs.declared.LinearTransformationStrategy.the-variants.{BsgsPowersOfTwo}
-use Rattle.linear_transformation.specs.Digits.{levelDigit, levelRotation}
-use Rattle.linear_transformation.specs.Trees.{there, nodes, Pair, pairsAt, Level, levelsOf, Tree, treeOf, levelWords, flag, recordWords, treeSwitches}
+use Rattle.linear_transformation.specs.Trees.{Pair, Level, levelWords, flag, recordWords, treeSwitches}
 use Rattle.linear_transformation.specs.Schedules.{giantSwitches, planTree}
-use Rattle.linear_transformation.specs.Laws.Trees.{odds, withEven}
 use Rattle.runs.specs.Switches.{Switch, giant, joined, levelSwitches, treeSchedule, giantSchedule}
 use Rattle.runs.specs.Steps.Keyed.{levelOf, pairOf}
 use Rattle.runs.specs.Laws.Elements.{mapped-at, behind-at, first-word, second-word}

@@ -1,10 +1,10 @@
 -- Laws of the vectors of a buffer: one put at a place is read there, and the others are kept.
 -- Assumes nothing.
-use Prim.Native.Nat.{ℕ, zero, suc, _+_, _*_, _-_, _/_, _%_, _≤_, _<_}
-use mathlib.Core.Path.{_≡_, refl, sym, ap, _∙_}
-use mathlib.Core.List.{List, [], _∷_, _++_}
+use Prim.Native.Nat.{ℕ, suc, _+_, _*_, _-_, _/_, _%_, _≤_, _<_}
+use mathlib.Core.Path.{_≡_, sym, ap, _∙_}
+use mathlib.Core.List.{List, _++_}
 use mathlib.Core.Logic.{_≢_}
-use native.Mathlib.Nat.{not-suc-le-zero, mul-le-mul-right, suc-mul, mod-eq-of-lt, div-eq-of-lt, add-comm, zero-add, add-mul-div-right, add-mul-mod-self-right}
+use native.Mathlib.Nat.{mul-le-mul-right, suc-mul, mod-eq-of-lt, div-eq-of-lt, add-comm, zero-add, add-mul-div-right, add-mul-mod-self-right}
 use native.Mathlib.Decide.{decLt}
 use native.Mathlib.Omega.{arith}
 use lib.ListN.{length, getD, take, drop, length-take, length-drop, length-append, List·getD-append}

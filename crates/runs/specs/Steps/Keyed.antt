@@ -9,7 +9,7 @@ use lib.ListN.{length, getD, take}
 use Rattle.ring.specs.Slots.{modulus, addm, mulm}
 use Rattle.ring.specs.Lists.{join, sumBy, among, Each, Rising}
 use Rattle.ring.specs.Vectors.{tabulate, inFront}
-use Rattle.diagonals.specs.Maps.{Diagonal, offsetsOf, offsetAt, diagonalAt, startAt}
+use Rattle.diagonals.specs.Maps.{offsetAt, diagonalAt}
 use Rattle.diagonals.specs.Products.{cell}
 use Rattle.linear_transformation.specs.Plans.{babiesAt}
 use Rattle.linear_transformation.specs.Closures.{nonzeros}

@@ -1,11 +1,11 @@
 -- What the private steps of the nodes ask and ensure.
 -- Assumes nothing.
-use Prim.Native.Nat.{ℕ, _+_, _-_, _*_, _%_, _≤_, _<_}
+use Prim.Native.Nat.{ℕ, _+_, _-_, _*_, _≤_, _<_}
 use mathlib.Core.Path.{_≡_}
 use mathlib.Core.Bool.{true}
 use mathlib.Core.List.{List}
 use lib.ListN.{length, getD}
-use Rattle.ring.specs.Slots.{modulus, mulm}
+use Rattle.ring.specs.Slots.{modulus}
 use Rattle.ring.specs.Lists.{join, sumBy, among}
 use Rattle.ring.specs.Vectors.{tabulate, inFront}
 use Rattle.diagonals.specs.Maps.{offsetAt, diagonalAt, startAt, WellFormed}

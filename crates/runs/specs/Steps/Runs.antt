@@ -1,6 +1,6 @@
 -- What the private steps of the keyed run's parts ask and ensure: the answer, the giant switches, and the whole run.
 -- Assumes nothing.
-use Prim.Native.Nat.{ℕ, zero, suc, _+_, _-_, _*_, _≤_, _<_}
+use Prim.Native.Nat.{ℕ, zero, suc, _+_, _-_, _*_, _≤_}
 use mathlib.Core.Path.{_≡_}
 use mathlib.Core.Bool.{cond}
 use mathlib.Core.List.{List, map}
@@ -10,7 +10,7 @@ use Rattle.ring.specs.Slots.{modulus, addm}
 use Rattle.ring.specs.Vectors.{tabulate, inFront, putAt}
 use Rattle.diagonals.specs.Maps.{offsetsOf, view}
 use Rattle.linear_transformation.specs.declared.LinearTransformationStrategy.{LinearTransformationStrategy}
-use Rattle.linear_transformation.specs.Schedules.{planBabies, planGiants, planWords, planSwitches}
+use Rattle.linear_transformation.specs.Schedules.{planWords}
 use Rattle.linear_transformation.specs.Stored.{planRecords, planLevels}
 use Rattle.runs.specs.declared.keyed.Survey.{Survey}
 use Rattle.runs.specs.Switches.{Switch, rotationOf, giantSchedule}

@@ -1,8 +1,7 @@
 -- `runs::giants::join_pair` meets its contract. Assumes nothing.
-use native.Mathlib.Omega.{arith}
 use borrow.Author.Needs.{needs}
 use mathlib.Core.Path.{refl, sym, _∙_}
-use Rattle.runs.proofs.Pairing.{record-asked, odd-asked, even-asked, alone-asked, alone, both-asked, both}
+use Rattle.runs.proofs.Pairing.{odd-asked, even-asked, alone-asked, alone, both-asked, both}
 use borrow.Author.Needs.{needs}
 use Rattle.runs.proofs.giants.join_pair.Statement.{statement}
 use Rattle.runs.proofs.giants.join_pair.Tie as tie

@@ -1,5 +1,4 @@
 -- `runs::giants::leaf_of` meets its contract. Assumes nothing.
-use native.Mathlib.Omega.{arith}
 use borrow.Author.Needs.{needs}
 use Rattle.runs.proofs.Pairing.{leaf-is, digit-refused}
 use borrow.Author.Needs.{needs}

@@ -3,7 +3,7 @@ use native.Mathlib.Omega.{arith}
 use borrow.Author.Needs.{needs}
 use Prim.Native.Nat.{_-_}
 use lib.ListN.{length}
-use Rattle.runs.proofs.Joining.{Leveling, leveling-none, leveling-more, level-found, level-last}
+use Rattle.runs.proofs.Joining.{Leveling, leveling-more, level-found, level-last}
 use Rattle.runs.proofs.giants.level_at.Statement.{statement}
 use Rattle.runs.proofs.giants.level_at.Tie as tie
 

@@ -3,7 +3,7 @@ use native.Mathlib.Omega.{arith}
 use borrow.Author.Needs.{needs}
 use Prim.Native.Nat.{_-_}
 use Rattle.runs.specs.Steps.Giants.{turnAt}
-use Rattle.runs.proofs.Joining.{Switching, switching-none, turn-room, turn-asked, turns-more, turns-done}
+use Rattle.runs.proofs.Joining.{Switching, switching-none, turn-asked, turns-more, turns-done}
 use Rattle.runs.proofs.giants.turn_giants.Statement.{statement}
 use Rattle.runs.proofs.giants.turn_giants.Tie as tie
 

@@ -1,5 +1,4 @@
 -- `runs::keyed::run_accepted` meets its contract. Assumes nothing.
-use native.Mathlib.Omega.{arith}
 use borrow.Author.Needs.{needs}
 use mathlib.Core.Path.{refl}
 use Rattle.runs.proofs.KeyedRunning.{plan-asked, run-asked, all-left}

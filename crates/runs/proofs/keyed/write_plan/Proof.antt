@@ -1,5 +1,4 @@
 -- `runs::keyed::write_plan` meets its contract. Assumes nothing.
-use native.Mathlib.Omega.{arith}
 use borrow.Author.Needs.{needs}
 use mathlib.Core.Path.{sym}
 use Rattle.runs.proofs.PlanWriting.{plan-left}

@@ -1,5 +1,4 @@
 -- `runs::nodes::make_node` meets its contract. Assumes nothing.
-use native.Mathlib.Omega.{arith}
 use borrow.Author.Needs.{needs}
 use Prim.Native.Nat.{ℕ}
 use native.Mathlib.Nat.{mod-lt}

@@ -5,7 +5,7 @@ use Rattle.runs.proofs.TwoRuns.{added-word}
 use mathlib.Core.Path.{_∙_}
 use Prim.Native.Nat.{_-_, _≤_}
 use Rattle.runs.specs.Steps.Keyed.{addedAt}
-use Rattle.runs.proofs.Putting.{Putting, putting-none, putting-more, putting-behind, putting-done}
+use Rattle.runs.proofs.Putting.{Putting, putting-none, putting-more, putting-done}
 use Rattle.runs.proofs.turning.add_run_to.Statement.{statement}
 use Rattle.runs.proofs.turning.add_run_to.Tie as tie
 
