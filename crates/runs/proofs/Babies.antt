@@ -30,7 +30,7 @@ use Rattle.runs.specs.Machines.{vectorAt, putVector, turned, sourceVecto
 use Rattle.runs.specs.Laws.Places.{inside-first, length-putVector}
 use Rattle.runs.specs.Laws.Folds.{cache-more}
 use Rattle.runs.specs.Laws.Schedules.{place-found, nonzeros-rise, among-nonzeros}
-use Rattle.runs.specs.Laws.NodePlaces.{rising-at}
+use Rattle.linear_transformation.specs.Laws.Runs.{rising-at}
 use Rattle.runs.specs.Laws.PassSchedules.{topTurn, making, nonzeros-positive, nonzeros-each}
 use Rattle.runs.specs.Steps.Keyed.{turnBy, Listed, Babies, Turnable, TurnIs, Caching, BabyMade, BabiesMade, CopyTurn}
 
@@ -49,14 +49,14 @@ module _ {bs : List ℕ} {k low high : ℕ} (l : Listed bs k) (b : Between bs k 
   between-up h = record { from = by (decLt (placeOf k bs) mid); below = b .below; inside = b .inside }
     where
       by : Dec (placeOf k bs < mid) → mid ≤ placeOf k bs
-      by (yes q) = absurd (omega (arith, rising-at bs (l .rises) (placeOf k bs) mid q (omega (arith, b .inside)), place-found k bs (l .has) .there))
+      by (yes q) = absurd (omega (arith, rising-at bs 0 (l .rises) (placeOf k bs) mid q (omega (arith, b .inside)), place-found k bs (l .has) .there))
       by (no q) = omega arith
 
   pub between-down : k < getD bs mid 0 → Between bs k low mid
   between-down h = record { from = b .from; below = by (decLt mid (placeOf k bs)) (ℕ-discrete (placeOf k bs) mid); inside = omega (arith, b .inside) }
     where
       by : Dec (mid < placeOf k bs) → Dec (placeOf k bs ≡ mid) → placeOf k bs < mid
-      by (yes q) d = absurd (omega (arith, rising-at bs (l .rises) mid (placeOf k bs) q (place-found k bs (l .has) .within), place-found k bs (l .has) .there))
+      by (yes q) d = absurd (omega (arith, rising-at bs 0 (l .rises) mid (placeOf k bs) q (place-found k bs (l .has) .within), place-found k bs (l .has) .there))
       by (no q) (yes e) = absurd (omega (arith, rw e at (place-found k bs (l .has) .there)))
       by (no q) (no n) = omega arith
 
@@ -197,7 +197,7 @@ module _ {bs input cache : List ℕ} {step : ℕ} (c : Caching bs step input cac
         where
           by : Dec (p ≡ r - 1) → v ≤ getD (nonzeros bs) (r - 1) 0
           by (yes q) = rw (← q) (omega arith)
-          by (no q) = let o = rising-at (nonzeros bs) (nonzeros-rise bs (c .babies .rises)) p (r - 1) (omega arith) (place-low (c .babies) source r s source-listed e) in omega arith
+          by (no q) = let o = rising-at (nonzeros bs) 0 (nonzeros-rise bs (c .babies .rises)) p (r - 1) (omega arith) (place-low (c .babies) source r s source-listed e) in omega arith
 
       earlier : r - 1 < p
       earlier = by (decLt (r - 1) p)

@@ -1,16 +1,16 @@
 -- The whole run: its baby switches alone, or with all that follows them, leave what the machine leaves after n switches.
 -- Assumes nothing.
-use Prim.Native.Nat.{ℕ, zero, suc, _+_, _-_, _≤_, _<_, min}
+use Prim.Native.Nat.{ℕ, _+_, _-_, _≤_, _<_, min}
 use mathlib.Core.Path.{_≡_, refl, sym, ap, _∙_}
 use mathlib.Core.Bool.{Bool, true, false, cond}
-use mathlib.Core.List.{List, [], _∷_, _++_, map, map-append}
+use mathlib.Core.List.{List, _++_, map, map-append}
 use native.Mathlib.Omega.{arith}
 use borrow.Author.Tests.{lt-ltb, le-ltb}
 use lib.Dec.{ltb}
 use lib.ListN.{length, take, length-map, length-append}
 use lib.Seq.{take-all, take-append-add, take-append-le}
 use Rattle.ring.specs.Slots.{modulus}
-use Rattle.ring.specs.Lists.{Each}
+use Rattle.ring.specs.Laws.Lists.{each-take}
 use Rattle.ring.specs.Vectors.{inFront, putAt}
 use Rattle.diagonals.specs.Maps.{Diagonal, offsetsOf, view}
 use Rattle.linear_transformation.specs.declared.LinearTransformationStrategy.{LinearTransformationStrategy}
@@ -28,11 +28,6 @@ use Rattle.runs.specs.Steps.Runs.{RunAsked, GiantsLeft, RunLeft}
 use Rattle.runs.proofs.FromBabies.{caching-of, babies-by, babies-logged}
 use Rattle.runs.proofs.Putting.{put-both}
 use Rattle.runs.proofs.Running.{take-least, babies-are, step-is, own-switches, all-switches, babies-part}
-
-each-take : {A : Type 0} (P : A → Type 0) (n : ℕ) (xs : List A) → Each P xs → Each P (take n xs)
-each-take P zero xs h = tt
-each-take P (suc n) [] h = tt
-each-take P (suc n) (x ∷ xs) h = (h .0, each-take P n xs (h .1))
 
 -- ---- the machine's parts
 

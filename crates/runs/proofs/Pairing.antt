@@ -30,7 +30,8 @@ use Rattle.linear_transformation.specs.Laws.Bits.{digit-small}
 use Rattle.runs.specs.Switches.{nodePlace}
 use Rattle.runs.specs.Machines.{putVector, turned, summed, vectorAt}
 use Rattle.runs.specs.Laws.Places.{inside-first, length-putVector}
-use Rattle.runs.specs.Laws.NodePlaces.{NodeFirst, node-first, node-before, rising-at}
+use Rattle.linear_transformation.specs.Laws.Runs.{rising-at}
+use Rattle.runs.specs.Laws.NodePlaces.{NodeFirst, node-first, node-before}
 use Rattle.runs.specs.Laws.Turnings.{length-summed}
 use Rattle.runs.specs.Laws.Elements.{mapped-at}
 use Rattle.runs.specs.Steps.Keyed.{TurnAsked, AddTurn}
@@ -113,7 +114,7 @@ module _ {gs : List ℕ} {width slots size level node : ℕ} (a : NodeAsked gs w
           where
             later : Dec (place ≡ mid) → ⊥
             later (yes w) = omega (arith, under, leaf-at, ap (λ (x : ℕ). getD leaves x 0) w)
-            later (no w) = omega (arith, under, leaf-at, rising-at leaves (a .leafy .rises) place mid (omega arith) (omega (arith, leaves-length, v .inside)))
+            later (no w) = omega (arith, under, leaf-at, rising-at leaves 0 (a .leafy .rises) place mid (omega arith) (omega (arith, leaves-length, v .inside)))
 
     pub locating-down : {x : ℕ} → x ≤ l → x ≡ node * 2 ^ level → Locating place (length gs) low mid
     locating-down {x} k z = record { from = v .from; to = by (decLt mid place); inside = omega (arith, v .inside) }

@@ -17,7 +17,7 @@ use lib.Seq.{take-add, getD-take, getD-drop, length-take-le}
 use Rattle.ring.specs.Lists.{join, Each, Rising, some, among}
 use Rattle.ring.specs.Residues.{residueOf, named}
 use Rattle.ring.specs.Searches.{only, below}
-use Rattle.ring.specs.Laws.Lists.{each-at, each-then, each-append, rising-snoc, join-append, length-join}
+use Rattle.ring.specs.Laws.Lists.{each-at, each-then, each-append, each-take, rising-snoc, join-append, length-join}
 use Rattle.ring.specs.Laws.Residues.{residue-lt}
 use Rattle.ring.specs.Laws.Searches.{by-false}
 use Rattle.ring.specs.Laws.Below.{below-no, below-le}
@@ -183,11 +183,6 @@ module _ {slots width g : ℕ} {ks run : List ℕ} (p : Planned slots width ks) 
       ap (cuts f' 0) giants-run ∙ cuts-snoc f' 0 gs g ∙ rw (cuts-cong f' f 0 gs same, n, run-babies)
 
 -- ---- parts of sorted diagonals
-
-each-take : (P : ℕ → Type 0) (n : ℕ) (xs : List ℕ) → Each P xs → Each P (take n xs)
-each-take P zero xs h = tt
-each-take P (suc n) [] h = tt
-each-take P (suc n) (x ∷ xs) h = (h .0, each-take P n xs (h .1))
 
 rising-take : (n : ℕ) (xs : List ℕ) → Rising xs → Rising (take n xs)
 rising-take zero xs r = tt

@@ -34,7 +34,7 @@ unfolding there
 there-zero [] n = refl
 there-zero (l ∷ ls) n = rw (div-one l) (ap (λ (b : Bool). eqb l n || b) (there-zero ls n))
 
-half-node : (l i : ℕ) → l / 2 ^ suc i ≡ l / 2 ^ i / 2
+pub half-node : (l i : ℕ) → l / 2 ^ suc i ≡ l / 2 ^ i / 2
 half-node l i = rw pow-suc (sym (div-div-eq-div-mul l (2 ^ i) 2))
 
 children : (q w : ℕ) → Dec (q / 2 ≡ w) → Dec (q % 2 ≡ 1) → eqb (q / 2) w ≡ (eqb q (2 * w) || eqb q (2 * w + 1))

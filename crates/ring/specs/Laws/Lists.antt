@@ -6,7 +6,7 @@ use mathlib.Core.List.{List, [], _∷_, _++_, map, reverse, reverseAux, reverse-
 use Prim.Native.Nat.{ℕ, zero, suc, _*_, _%_, _<_}
 use native.Mathlib.Nat.{not-suc-le-zero, le-of-suc-le-suc, zero-mod, add-zero, add-comm, add-mod-mod, zero-mul, suc-mul}
 use native.Mathlib.Omega.{arith}
-use lib.ListN.{length, getD, drop, length-append}
+use lib.ListN.{length, getD, take, drop, length-append, take-append-drop}
 use Rattle.ring.specs.Vectors.{tabulate}
 use lib.Seq.{drop-append-seam}
 use Rattle.ring.specs.Slots.{addm, mulm}
@@ -54,6 +54,17 @@ module _ {A : Type 0} where
   pub each-append : (P : A → Type 0) (xs ys : List A) → Each P xs → Each P ys → Each P (xs ++ ys)
   each-append P [] ys h k = k
   each-append P (x ∷ xs) ys h k = (h .0, each-append P xs ys (h .1) k)
+
+  pub each-front : (P : A → Type 0) (xs ys : List A) → Each P (xs ++ ys) → Each P xs
+  each-front P [] ys h = tt
+  each-front P (x ∷ xs) ys h = (h .0, each-front P xs ys (h .1))
+
+  pub each-back : (P : A → Type 0) (xs ys : List A) → Each P (xs ++ ys) → Each P ys
+  each-back P [] ys h = h
+  each-back P (x ∷ xs) ys h = each-back P xs ys (h .1)
+
+  pub each-take : (P : A → Type 0) (n : ℕ) (xs : List A) → Each P xs → Each P (take n xs)
+  each-take P n xs h = each-front P (take n xs) (drop n xs) (rw (take-append-drop n xs) h)
 
   each-onto : (P : A → Type 0) (xs ys : List A) → Each P xs → Each P ys → Each P (reverseAux xs ys)
   each-onto P [] ys h k = k

@@ -26,10 +26,10 @@ use Rattle.runs.specs.Switches.{sourceOf, Switch, rotationOf, babySchedu
 use Rattle.runs.specs.Machines.{State, vectorAt, sourceVector, switched, switchedAll, nodeAt, nodeWords, withNodes, answerOf, withAnswer, machine}
 use Rattle.runs.specs.Laws.Plans.{map-distinct}
 use Rattle.runs.specs.Laws.Places.{length-vectors, vector-front}
-use Rattle.runs.specs.Laws.Switching.{switches-made, switches-logged, switched-append, babies-leave, babies-of-cache}
+use Rattle.runs.specs.Laws.Switching.{switches-made, switches-out, switches-logged, switched-append, babies-leave, babies-of-cache}
 use Rattle.runs.specs.Laws.Caches.{cache-holds}
 use Rattle.runs.specs.Laws.NodeSums.{nodes-product}
-use Rattle.runs.specs.Laws.Turnings.{Finished, switched-out}
+use Rattle.runs.specs.Laws.Turnings.{Finished}
 use Rattle.runs.specs.Laws.Answers.{plan-answer, length-answer}
 
 -- ---- the first n of two lists
@@ -224,11 +224,11 @@ module _
 
     before-out : before .out ≡ lent .out
     unfolding withNodes
-    before-out = switched-out m slots input lent (babySchedule slots strategy ks)
+    before-out = switches-out m slots input lent (babySchedule slots strategy ks)
 
     -- the finished machine's answer is Halevi and Shoup's product, in front of what was lent
     pub finished-product : (n : ℕ) → length (schedule slots strategy (offsetsOf ds)) ≤ n → machine m slots strategy ds input lent n .out ≡ inFront (tabulate slots (product m slots ds input)) (lent .out)
     unfolding withAnswer
     finished-product n h =
         ap (λ (st : State). st .out) (machine-finished m slots strategy ds input lent n h)
-        ∙ rw (answer-product, switched-out m slots input before (giantSchedule slots strategy ks), before-out)
+        ∙ rw (answer-product, switches-out m slots input before (giantSchedule slots strategy ks), before-out)

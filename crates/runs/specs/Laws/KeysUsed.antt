@@ -11,7 +11,7 @@ use borrow.Author.Tests.{not-true, not-false}
 use lib.ListN.{length}
 use Rattle.ring.specs.Lists.{join, some, Each, among}
 use Rattle.ring.specs.Vectors.{tabulate}
-use Rattle.ring.specs.Laws.Lists.{each-all, each-append, each-map, map-each}
+use Rattle.ring.specs.Laws.Lists.{each-all, each-append, each-front, each-back, each-map, map-each}
 use Rattle.ring.specs.Laws.Members.{among-each, among-some}
 use Rattle.ring.specs.Laws.Refusals.{either}
 use Rattle.linear_transformation.specs.declared.LinearTransformationStrategy.{LinearTransformationStrategy}
@@ -24,17 +24,6 @@ use Rattle.linear_transformation.specs.Schedules.{babyStep, babyMultiples, plan
 use Rattle.linear_transformation.specs.Laws.Runs.{some-member}
 use Rattle.runs.specs.Switches.{placeOf, fromInput, Switch, baby, giant, rotationOf, ownBabies, moved, passBabies, planPasses, babySchedule, ownGiants, joined, levelSwitches, giantSchedule, schedule}
 use Rattle.linear_transformation.specs.Stored.{isMissing}
-
--- ---- each element of two lists
-
-module _ {A : Type 0} (P : A → Type 0) where
-  each-front : (xs ys : List A) → Each P (xs ++ ys) → Each P xs
-  each-front [] ys h = tt
-  each-front (x ∷ xs) ys h = (h .0, each-front xs ys (h .1))
-
-  each-back : (xs ys : List A) → Each P (xs ++ ys) → Each P ys
-  each-back [] ys h = h
-  each-back (x ∷ xs) ys h = each-back xs ys (h .1)
 
 -- ---- a key for each rotation
 

@@ -5,28 +5,20 @@ use mathlib.Core.Path.{_≡_, refl, sym, ap, _∙_}
 use mathlib.Core.Bool.{Bool, true, false, _||_, true≢false}
 use mathlib.Core.Logic.{_≢_, ⊎-elim}
 use mathlib.Core.List.{List, [], _∷_}
-use native.Mathlib.Nat.{pow-suc, div-one, div-div-eq-div-mul, div-eq-of-lt, not-suc-le-zero, le-of-suc-le-suc}
+use native.Mathlib.Nat.{div-one, div-eq-of-lt, not-suc-le-zero, le-of-suc-le-suc}
 use native.Mathlib.Decide.{ℕ-discrete}
 use native.Mathlib.Omega.{arith}
 use borrow.Author.Tests.{eq-eqb, ne-eqb}
 use lib.Dec.{eqb}
 use lib.ListN.{length, getD}
 use Rattle.ring.specs.Lists.{Rising, among}
-use Rattle.ring.specs.Laws.Lists.{each-at}
 use Rattle.ring.specs.Laws.Searches.{lt-or-ge}
 use Rattle.ring.specs.Laws.Members.{right, left, among-rest, each-among}
 use Rattle.linear_transformation.specs.Trees.{there}
-use Rattle.linear_transformation.specs.Laws.Trees.{there-zero, there-half}
+use Rattle.linear_transformation.specs.Laws.Trees.{half-node, there-zero, there-half}
 use Rattle.runs.specs.Switches.{placeOf, nodePlace}
 
 -- ---- rising numbers and their places
-
--- later numbers are larger
-pub rising-at : (xs : List ℕ) → Rising xs → (i j : ℕ) → i < j → j < length xs → getD xs i 0 < getD xs j 0
-rising-at [] r i j l h = absurd (not-suc-le-zero h)
-rising-at (x ∷ xs) r i zero l h = absurd (not-suc-le-zero l)
-rising-at (x ∷ xs) r zero (suc j) l h = each-at (λ y. x < y) xs 0 (r .0) j (le-of-suc-le-suc h)
-rising-at (x ∷ xs) r (suc i) (suc j) l h = rising-at xs (r .1) i j (le-of-suc-le-suc l) (le-of-suc-le-suc h)
 
 -- the place of one of them: smaller ones before it
 pub record FirstPlace (xs : List ℕ) (k place : ℕ) : Type 0 where
@@ -49,18 +41,7 @@ place-of (x ∷ xs) k r h = by (ℕ-discrete x k) (place-of xs k (r .1))
         earlier f a zero l = each-among (λ y. x < y) xs (r .0) k a
         earlier f a (suc j) l = f .before j (le-of-suc-le-suc l)
 
--- the place of the one that stands at place k
-pub place-at : (xs : List ℕ) → Rising xs → (k : ℕ) → k < length xs → placeOf (getD xs k 0) xs ≡ k
-place-at [] r k l = absurd (not-suc-le-zero l)
-place-at (x ∷ xs) r zero l = rw (eq-eqb x x refl)
-place-at (x ∷ xs) r (suc k) l =
-    let n : x < getD xs k 0 = each-at (λ y. x < y) xs 0 (r .0) k (le-of-suc-le-suc l) in
-    rw (ne-eqb x (getD xs k 0) (λ e. omega arith)) (ap suc (place-at xs (r .1) k (le-of-suc-le-suc l)))
-
 -- ---- nodes
-
-pub half-node : (l i : ℕ) → l / 2 ^ suc i ≡ l / 2 ^ i / 2
-half-node l i = rw pow-suc (sym (div-div-eq-div-mul l (2 ^ i) 2))
 
 -- a leaf's node is there
 pub there-at : (ls : List ℕ) (i j : ℕ) → j < length ls → there ls i (getD ls j 0 / 2 ^ i) ≡ true

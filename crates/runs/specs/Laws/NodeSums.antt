@@ -8,7 +8,6 @@ use native.Mathlib.Nat.{add-comm, mod-lt, mod-add-mod}
 use native.Mathlib.Omega.{arith}
 use borrow.Author.Tests.{eq-eqb, ne-eqb}
 use lib.Dec.{eqb}
-use lib.IntN.{pos}
 use lib.ListN.{length, getD}
 use Rattle.ring.specs.Slots.{mulm}
 use Rattle.ring.specs.Lists.{sumBy, Each, Rising, among}
@@ -16,8 +15,6 @@ use Rattle.ring.specs.Searches.{only}
 use Rattle.ring.specs.Laws.Slots.{mulm-comm}
 use Rattle.ring.specs.Laws.Lists.{each-then, each-both, map-each, sumBy-each, sumBy-map, sumBy-join}
 use Rattle.ring.specs.Laws.Members.{among-joined, only-yes, among-each}
-use Rattle.ring.specs.Laws.Residues.{residue-pos}
-use Rattle.ring.specs.Laws.Rotations.{getD-rotated}
 use Rattle.diagonals.specs.Maps.{Diagonal, offsetsOf, FormedMap}
 use Rattle.diagonals.specs.Products.{cell, stretch, term, product}
 use Rattle.diagonals.specs.Laws.Matrices.{meets-own}
@@ -30,6 +27,7 @@ use Rattle.runs.specs.Switches.{sourceOf}
 use Rattle.runs.specs.Machines.{turned, sourceVector, nodeAt}
 use Rattle.runs.specs.Laws.Plans.{map-distinct}
 use Rattle.runs.specs.Laws.Schedules.{plan-babies-have}
+use Rattle.runs.specs.Laws.Turnings.{getD-turned}
 
 -- ---- the babies of a giant
 
@@ -45,10 +43,6 @@ babies-at-plan slots low strategy ks p g =
     rw e (plan-babies-have slots low strategy ks (babyOf w (x .0)) (babies-have p (x .0) (x .1 .0))))
 
 -- ---- slots
-
--- a word of the input rotated by k
-pub getD-turned : (slots : ℕ) (v : List ℕ) → length v ≡ slots → (k s : ℕ) → s < slots → getD (turned slots v k) s 0 ≡ getD v ((s + k) % slots) 0
-getD-turned slots v len k s l = getD-rotated v (pos k) slots s l ∙ rw (len, residue-pos (s + k) slots (omega arith))
 
 -- g slots on, and back
 pub slot-back : (slots s g : ℕ) → s < slots → g < slots → ((s + g) % slots + (slots - g)) % slots ≡ s

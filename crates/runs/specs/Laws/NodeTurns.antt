@@ -11,14 +11,15 @@ use borrow.Author.Tests.{eq-eqb, ne-eqb}
 use lib.ListN.{length, getD}
 use Rattle.ring.specs.Lists.{Rising, sumBy}
 use Rattle.ring.specs.Vectors.{tabulate}
-use Rattle.ring.specs.Laws.Lists.{each-all, each-map, each-tabulate, sumBy-each}
+use Rattle.ring.specs.Laws.Lists.{each-tabulate, sumBy-each}
 use Rattle.ring.specs.Laws.Vectors.{getD-tabulate}
 use Rattle.linear_transformation.specs.Closures.{nonzeros}
 use Rattle.runs.specs.Switches.{placeOf, giant, ownGiants}
 use Rattle.runs.specs.Machines.{State, vectorAt, putVector, turned, switched, switchedAll, nodeSum}
 use Rattle.runs.specs.Laws.Places.{Inside, inside-first, length-vectorAt, length-putVector, vector-same, vector-other}
-use Rattle.runs.specs.Laws.NodePlaces.{place-at}
-use Rattle.runs.specs.Laws.Turnings.{length-turned, getD-turned, KeepsCache, switched-cache, switched-out, Finished}
+use Rattle.runs.specs.Laws.Schedules.{place-own}
+use Rattle.runs.specs.Laws.Switching.{switches-out, giants-leave, giants-own}
+use Rattle.runs.specs.Laws.Turnings.{length-turned, getD-turned, Finished}
 
 module _ (m slots : ℕ) (p : 0 < slots) (input gs : List ℕ) (rises : Rising gs) where
   module _ (first : List ℕ) (room : length gs * slots ≤ length first) where
@@ -59,13 +60,13 @@ module _ (m slots : ℕ) (p : 0 < slots) (input gs : List ℕ) (rises : Rising g
         new = turned slots (vectorAt slots nodes k) (getD gs k 0)
 
         len : length new ≡ slots
-        len = length-turned slots p (vectorAt slots nodes k) (length-vectorAt slots (inside k h)) (getD gs k 0)
+        len = length-turned slots (vectorAt slots nodes k) (getD gs k 0)
 
         by : (q : ℕ) → q < length gs → (s : ℕ) → s < slots → (q ≡ k) ⊎ (q < k) → getD (vectorAt slots (putVector slots nodes k new) q) s 0 ≡ getD (vectorAt slots first q) ((s + getD gs q 0) % slots) 0
         by q i s l (inl e) =
             rw e
             (ap (λ (v : List ℕ). getD v s 0) (vector-same slots new len (inside k h))
-            ∙ getD-turned slots p (vectorAt slots nodes k) (length-vectorAt slots (inside k h)) (getD gs k 0) s l
+            ∙ getD-turned slots (vectorAt slots nodes k) (length-vectorAt slots (inside k h)) (getD gs k 0) s l
             ∙ ap (λ (v : List ℕ). getD v ((s + getD gs k 0) % slots) 0) (r .todo k (omega arith) h))
         by q i s l (inr o) = ap (λ (v : List ℕ). getD v s 0) (vector-other slots new len (inside k h) q (λ e. omega arith) (inside q i)) ∙ r .done q o i s l
 
@@ -83,7 +84,7 @@ module _ (m slots : ℕ) (p : 0 < slots) (input gs : List ℕ) (rises : Rising g
             → TurnedTo (length gs) (switchedAll m slots input st (map (λ g. giant (placeOf g gs) g) (nonzeros (g ∷ rs))) .nodes)
         by here (yes z) rest = rw (eq-eqb g 0 z) (rest st (zero-stays k (st .nodes) (here ∙ z) r))
         by here (no n) rest =
-            let place : placeOf g gs ≡ k = rw here at (place-at gs rises k (omega arith)) in
+            let place : placeOf g gs ≡ k = rw here at (place-own gs rises k (omega arith)) in
             rw (ne-eqb g 0 n, place) (rest (switched m slots input st (giant k g)) (rw here at (giant-turns k (st .nodes) (omega arith) r)))
 
   -- the sum of all nodes is that of the giants' vectors, each turned by its giant
@@ -101,6 +102,6 @@ module _ (m slots : ℕ) (p : 0 < slots) (input gs : List ℕ) (rises : Rising g
             ∙ sumBy-each m (λ place. getD (vectorAt slots nodes place) s 0) (λ place. getD (vectorAt slots (st .nodes) place) ((s + getD gs place 0) % slots) 0) (tabulate (length gs) (λ place. place))
             (each-tabulate (λ place. getD (vectorAt slots nodes place) s 0 ≡ getD (vectorAt slots (st .nodes) place) ((s + getD gs place 0) % slots) 0) (length gs) (λ place. place) (λ q h. t .done q h h s l));
         nodes-size = t .size;
-        cache-kept = switched-cache m slots input st (ownGiants gs) (each-map (KeepsCache m slots input) (λ g. giant (placeOf g gs) g) (nonzeros gs) (each-all (λ g. record { same = λ cache. refl }) (nonzeros gs)));
-        out-kept = switched-out m slots input st (ownGiants gs);
+        cache-kept = giants-leave m slots input st (ownGiants gs) (giants-own gs);
+        out-kept = switches-out m slots input st (ownGiants gs);
       }

@@ -5,14 +5,11 @@ use mathlib.Core.Path.{_≡_, refl, sym, ap, _∙_}
 use mathlib.Core.List.{List, [], _∷_, _++_, map, append-nil, append-assoc}
 use native.Mathlib.Nat.{add-zero, mul-le-mul-right, suc-mul}
 use native.Mathlib.Omega.{arith}
-use lib.IntN.{pos}
 use lib.ListN.{length, take, length-map, length-append, length-set, take-append-drop}
 use lib.Seq.{length-take-le, take-suc-set, drop-set-lt}
 use Rattle.ring.specs.Lists.{Each}
 use Rattle.ring.specs.Vectors.{inFront}
 use Rattle.ring.specs.Laws.Lists.{each-all, each-append, each-map, each-tabulate}
-use Rattle.ring.specs.Laws.Rotations.{length-rotated}
-use Rattle.ring.specs.Laws.Vectors.{length-tabulate}
 use Rattle.linear_transformation.specs.declared.LinearTransformationStrategy.{LinearTransformationStrategy}
 use Rattle.linear_transformation.specs.Closures.{nonzeros}
 use Rattle.linear_transformation.specs.declared.LinearTransformationStrategy.the-variants.{Bsgs, BsgsPowersOfTwo, Direct}
@@ -22,6 +19,7 @@ use Rattle.linear_transformation.specs.Schedules.{planBabies, planTree}
 use Rattle.runs.specs.Switches.{placeOf, none, at, Switch, baby, giant, pair, rotationOf, ownGiants, joined, levelSwitches, babySchedule, giantSchedule}
 use Rattle.runs.specs.Machines.{State, vectorAt, putVector, turned, summed, sourceVector, cacheAfter, nodesAfter, switched, switchedAll}
 use Rattle.runs.specs.Laws.Places.{length-putVector}
+use Rattle.runs.specs.Laws.Turnings.{length-turned, length-summed}
 use Rattle.runs.specs.Laws.PassSchedules.{making, turnOf, baby-schedule}
 
 -- ---- what a switch keeps
@@ -52,30 +50,23 @@ OfNodes (giant place k) = Unit {0}
 OfNodes (pair odd even k) = Unit {0}
 
 module _ (m slots : ℕ) (input : List ℕ) where
-  length-turned : (v : List ℕ) (k : ℕ) → length (turned slots v k) ≡ slots
-  length-turned v k = length-rotated v (pos k) slots
-
-  length-summed : (v w : List ℕ) → length (summed m slots v w) ≡ slots
-  unfolding summed
-  length-summed v w = length-tabulate slots _
-
   put-length : (buffer : List ℕ) (place : ℕ) (v : List ℕ) → length v ≡ slots → place * slots + slots ≤ length buffer → length (putVector slots buffer place v) ≡ length buffer
   put-length buffer place v len h = length-putVector slots {buffer = buffer} {place = place} v len (record { room = h })
 
   cache-kept : (cache nodes : List ℕ) (w : Switch) → Fits slots (length cache) (length nodes) w → length (cacheAfter slots input cache w) ≡ length cache
   cache-kept cache nodes (baby place source k) h =
-      put-length cache place (turned slots (sourceVector slots input cache source) k) (length-turned (sourceVector slots input cache source) k) h
+      put-length cache place (turned slots (sourceVector slots input cache source) k) (length-turned slots (sourceVector slots input cache source) k) h
   cache-kept cache nodes (giant place k) h = refl
   cache-kept cache nodes (pair odd even k) h = refl
 
   nodes-kept : (cache nodes : List ℕ) (w : Switch) → Fits slots (length cache) (length nodes) w → length (nodesAfter m slots nodes w) ≡ length nodes
   nodes-kept cache nodes (baby place source k) h = refl
   nodes-kept cache nodes (giant place k) h =
-      put-length nodes place (turned slots (vectorAt slots nodes place) k) (length-turned (vectorAt slots nodes place) k) h
+      put-length nodes place (turned slots (vectorAt slots nodes place) k) (length-turned slots (vectorAt slots nodes place) k) h
   nodes-kept cache nodes (pair odd none k) h =
-      put-length nodes odd (turned slots (vectorAt slots nodes odd) k) (length-turned (vectorAt slots nodes odd) k) h
+      put-length nodes odd (turned slots (vectorAt slots nodes odd) k) (length-turned slots (vectorAt slots nodes odd) k) h
   nodes-kept cache nodes (pair odd (at even) k) h =
-      put-length nodes even (summed m slots (vectorAt slots nodes even) (turned slots (vectorAt slots nodes odd) k)) (length-summed (vectorAt slots nodes even) (turned slots (vectorAt slots nodes odd) k)) h
+      put-length nodes even (summed m slots (vectorAt slots nodes even) (turned slots (vectorAt slots nodes odd) k)) (length-summed m slots (vectorAt slots nodes even) (turned slots (vectorAt slots nodes odd) k)) h
 
   switched-kept : (st : State) (w : Switch) → Fits slots (length (st .cache)) (length (st .nodes)) w → Kept st (switched m slots input st w)
   unfolding switched
@@ -172,14 +163,14 @@ babies-fit slots strategy ks c n h =
     (each-tabulate (Fits slots c n) z (making bs (turnOf slots strategy ks))
     (λ p l. let e : suc p * slots ≤ z * slots = mul-le-mul-right slots l in omega (arith, suc-mul p slots, e)))
 
-levels-of-nodes : (leaves : List ℕ) (i : ℕ) (ls : List Level) → Each OfNodes (levelSwitches leaves i ls)
+pub levels-of-nodes : (leaves : List ℕ) (i : ℕ) (ls : List Level) → Each OfNodes (levelSwitches leaves i ls)
 levels-of-nodes leaves i [] = tt
 levels-of-nodes leaves i (l ∷ ls) =
     each-append OfNodes (map (joined leaves i (l .rotation .0)) (l .pairs)) (levelSwitches leaves (suc i) ls)
     (each-map OfNodes (joined leaves i (l .rotation .0)) (l .pairs) (each-all (λ p. tt) (l .pairs)))
     (levels-of-nodes leaves (suc i) ls)
 
-giants-own : (gs : List ℕ) → Each OfNodes (ownGiants gs)
+pub giants-own : (gs : List ℕ) → Each OfNodes (ownGiants gs)
 giants-own gs = each-map OfNodes (λ g. giant (placeOf g gs) g) (nonzeros gs) (each-all (λ g. tt) (nonzeros gs))
 
 pub giants-of-nodes : (slots : ℕ) (strategy : LinearTransformationStrategy) (ks : List ℕ) → Each OfNodes (giantSchedule slots strategy ks)

@@ -11,22 +11,23 @@ use lib.Signed.{mag}
 use lib.ListN.{length, getD, length-map}
 use Rattle.ring.specs.Lists.{Each, Rising, sumBy}
 use Rattle.ring.specs.Vectors.{tabulate}
-use Rattle.ring.specs.Laws.Lists.{each-at, each-all, each-map, map-each, each-both, each-append}
+use Rattle.ring.specs.Laws.Lists.{each-at, each-map, map-each, each-both}
 use Rattle.ring.specs.Laws.Residues.{residue-lt}
 use Rattle.ring.specs.Laws.Vectors.{getD-tabulate}
 use Rattle.linear_transformation.specs.declared.digits.Rot.{Rot}
 use Rattle.linear_transformation.specs.Digits.{Giant, digit, bitsOf, leaf, levelRotation}
-use Rattle.linear_transformation.specs.Trees.{there, Level, levelsOf, treeOf, pairsAt}
+use Rattle.linear_transformation.specs.Trees.{there, levelsOf, treeOf, pairsAt}
 use Rattle.linear_transformation.specs.Plans.{Planned, giants}
 use Rattle.linear_transformation.specs.Schedules.{planRots, giantDigits, planTree}
 use Rattle.linear_transformation.specs.Laws.Bits.{bits-positive, bits-small}
 use Rattle.linear_transformation.specs.Laws.Leaves.{leaves-rise, rotationSum, leaf-rotations}
 use Rattle.linear_transformation.specs.Laws.Plans.{giants-rise, giants-below, giants-multiple}
-use Rattle.runs.specs.Switches.{nodePlace, joined, levelSwitches, treeSchedule}
+use Rattle.runs.specs.Switches.{nodePlace, treeSchedule}
 use Rattle.runs.specs.Machines.{State, vectorAt, switchedAll, topNode}
 use Rattle.runs.specs.Laws.Places.{getD-vectorAt}
 use Rattle.runs.specs.Laws.NodePlaces.{node-first, top-there}
-use Rattle.runs.specs.Laws.Turnings.{KeepsCache, switched-cache, switched-out, Finished}
+use Rattle.runs.specs.Laws.Switching.{switches-out, giants-leave, levels-of-nodes}
+use Rattle.runs.specs.Laws.Turnings.{Finished}
 use Rattle.runs.specs.Laws.TreeSums.{nodeValue, value-leaf, value-top}
 use Rattle.runs.specs.Laws.TreeLevels.{Stands, levels-stand}
 
@@ -35,14 +36,6 @@ getD-map-in : (f : ℕ → ℕ) (xs : List ℕ) (q : ℕ) → q < length xs → 
 getD-map-in f [] q l = absurd (not-suc-le-zero l)
 getD-map-in f (x ∷ xs) zero l = refl
 getD-map-in f (x ∷ xs) (suc q) l = getD-map-in f xs q (le-of-suc-le-suc l)
-
--- the switches of levels keep the cache
-levels-keep : (m slots : ℕ) (input leaves : List ℕ) (i : ℕ) (ls : List Level) → Each (KeepsCache m slots input) (levelSwitches leaves i ls)
-levels-keep m slots input leaves i [] = tt
-levels-keep m slots input leaves i (l ∷ ls) =
-    each-append (KeepsCache m slots input) (map (joined leaves i (l .rotation .0)) (l .pairs)) (levelSwitches leaves (suc i) ls)
-    (each-map (KeepsCache m slots input) (joined leaves i (l .rotation .0)) (l .pairs) (each-all (λ p. record { same = λ cache. refl }) (l .pairs)))
-    (levels-keep m slots input leaves (suc i) ls)
 
 -- ---- the leaves of a plan
 
@@ -164,8 +157,8 @@ module _ (m slots width : ℕ) (ks : List ℕ) (p : Planned slots width ks) (h :
             ∙ value-top m slots width b leaves (st .nodes) (λ q. getD gs' q 0) (λ q o. leaf-low slots width ks q (rw same at o)) (λ q o. leaf-turns slots width ks p q (rw same at o)) s
             ∙ ap (λ (n : ℕ). total n s) same);
         nodes-size = all-stand .size;
-        cache-kept = switched-cache m slots input st (treeSchedule (planTree slots width ks)) (levels-keep m slots input leaves 0 (planTree slots width ks .levels));
-        out-kept = switched-out m slots input st (treeSchedule (planTree slots width ks));
+        cache-kept = giants-leave m slots input st (treeSchedule (planTree slots width ks)) (levels-of-nodes leaves 0 (planTree slots width ks .levels));
+        out-kept = switches-out m slots input st (treeSchedule (planTree slots width ks));
       }
     where
       gs' : List ℕ

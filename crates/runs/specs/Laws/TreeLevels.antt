@@ -21,7 +21,8 @@ use Rattle.runs.specs.Switches.{Switch, nodePlace, joined, levelSwitches
 use Rattle.runs.specs.Machines.{State, vectorAt, putVector, turned, summed, switched, switchedAll}
 use Rattle.runs.specs.Laws.Places.{Inside, inside-first, length-vectorAt, length-putVector, vector-same, vector-other}
 use Rattle.runs.specs.Laws.NodePlaces.{node-first, place-other, place-apart}
-use Rattle.runs.specs.Laws.Turnings.{length-turned, getD-turned, length-summed, getD-summed, switched-append}
+use Rattle.runs.specs.Laws.Switching.{switched-append}
+use Rattle.runs.specs.Laws.Turnings.{length-turned, getD-turned, length-summed, getD-summed}
 use Rattle.runs.specs.Laws.TreeSums.{nodeValue, value-mod, value-none, value-half}
 
 module _ (m slots step b : ℕ) (p : 0 < slots) (input leaves first : List ℕ) (rises : Rising leaves) (room : length leaves * slots ≤ length first) where
@@ -107,7 +108,7 @@ module _ (m slots step b : ℕ) (p : 0 < slots) (input leaves first : List ℕ) 
         → getD (turned slots (vectorAt slots nodes (nodePlace leaves i (2 * n + 1))) (levelRotation slots step b i .0)) s 0 ≡ value i (2 * n + 1) ((s + levelRotation slots step b i .0) % slots)
     odd-turned t s l =
         let k = levelRotation slots step b i .0 in
-        getD-turned slots p (vectorAt slots nodes (nodePlace leaves i (2 * n + 1))) (length-vectorAt slots (inside i (2 * n + 1) t)) k s l
+        getD-turned slots (vectorAt slots nodes (nodePlace leaves i (2 * n + 1))) (length-vectorAt slots (inside i (2 * n + 1) t)) k s l
         ∙ r .todo (2 * n + 1) (omega arith) t .slot ((s + k) % slots) (mod-lt (s + k) p)
 
   -- the switches of odd nodes
@@ -128,7 +129,7 @@ module _ (m slots step b : ℕ) (p : 0 < slots) (input leaves first : List ℕ) 
       let odd = vectorAt slots (st .nodes) (nodePlace leaves i (2 * n + 1)) in
       let k = levelRotation slots step b i .0 in
       rw (add-sub-cancel (2 * n) 1, x)
-      (rw (place-odd i n x) at (parent-put i n (st .nodes) r (turned slots odd k) (length-turned slots p odd (length-vectorAt slots (inside i n (st .nodes) r i (2 * n + 1) y)) k) (above i n (st .nodes) r false true x y)
+      (rw (place-odd i n x) at (parent-put i n (st .nodes) r (turned slots odd k) (length-turned slots odd k) (above i n (st .nodes) r false true x y)
       (λ s l.
       let z = (s + k) % slots in
       odd-turned i n (st .nodes) r y s l

@@ -21,16 +21,18 @@ use Rattle.ring.specs.Laws.Below.{sum-one}
 use Rattle.ring.specs.Laws.Searches.{lt-or-ge}
 use Rattle.linear_transformation.specs.Digits.{levelRotation}
 use Rattle.linear_transformation.specs.Trees.{there}
+use Rattle.linear_transformation.specs.Laws.Runs.{rising-at}
+use Rattle.linear_transformation.specs.Laws.Trees.{half-node}
 use Rattle.linear_transformation.specs.Laws.Leaves.{rotationSum}
 use Rattle.runs.specs.Machines.{vectorAt}
-use Rattle.runs.specs.Laws.NodePlaces.{rising-at, half-node, there-at}
+use Rattle.runs.specs.Laws.NodePlaces.{there-at}
 
 -- rising numbers at different places differ
 rising-apart : (xs : List ℕ) → Rising xs → (i j : ℕ) → i < length xs → j < length xs → i ≢ j → getD xs i 0 ≢ getD xs j 0
 rising-apart xs r i j l h n e =
     ⊎-elim
-    (λ (q : i < j). omega (arith, rising-at xs r i j q h))
-    (λ q. omega (arith, rising-at xs r j i (omega arith) l))
+    (λ (q : i < j). omega (arith, rising-at xs 0 r i j q h))
+    (λ q. omega (arith, rising-at xs 0 r j i (omega arith) l))
     (lt-or-ge i j)
 
 module _ (m slots step b : ℕ) where
