@@ -1,13 +1,51 @@
-// The nodes: for each giant the sum over its diagonals of the input rotated by the baby.
+// The nodes: for each giant the sum over its diagonals of the input rotated by the baby, times the
+// diagonal turned back by the giant.
 ghost use mathlib.Core.Path.{_≡_};
-ghost use Prim.Native.Nat.{_+_};
+ghost use Prim.Native.Nat.{_≤_};
 ghost use lib.ListN.{length};
-ghost use Rattle.diagonals.specs.Maps.{startAt};
-ghost use Rattle.runs.specs.Steps.Nodes.{GiantAsked, Summing, DiagonalsAdded, NodeMade, NodesAsked, NodesMade};
+ghost use Rattle.ring.specs.Vectors.{tabulate};
+ghost use Rattle.runs.specs.Steps.Nodes.{Around, aroundAdded, GiantAsked, PartAsked, PartMade, NodesAsked, TileAsked, TileMade, NodesMade};
 
-// Adds n diagonals from the first on to a vector of zeros, whose values stand from `start` on: at slot
-// s the diagonal's value there times the rotated input at s + giant. Gives where the next values start.
-fn add_diagonals<'a>(
+// Adds to part[j] the period's word at from + j, around it, times vector[j].
+fn add_around(period: &[u64], from: usize, vector: &[u64], part: &mut [u64])
+    requires { ⌜ Around (now period) from (now vector) (now part) ⌝ }
+    ensures { λ _. ⌜ now (part .exit) ≡ tabulate (length (now (part .entry))) (aroundAdded (now (period .entry)) from (now (vector .entry)) (now (part .entry))) ⌝ }
+{
+    let n = part.len();
+    let len = period.len();
+    let mut s = 0;
+    while s < n {
+        let at = (from + s) % len;
+        let run = ring::least(len - at, n - s);
+        let to = at + run;
+        let end = s + run;
+        let _added = ring::multiply_add_into(&period[at..to], &vector[s..end], &mut part[s..end]);
+        s = end;
+    }
+}
+
+// The same. Where four copies of the period fit the table they are laid out there first, so that runs
+// are long.
+fn add_period(period: &[u64], from: usize, vector: &[u64], table: &mut [u64], part: &mut [u64])
+    requires { ⌜ Around (now period) from (now vector) (now part) ⌝ }
+    requires { ⌜ length (now table) ≤ 65536 ⌝ }
+    ensures { λ _. ⌜ now (part .exit) ≡ tabulate (length (now (part .entry))) (aroundAdded (now (period .entry)) from (now (vector .entry)) (now (part .entry))) ⌝ }
+{
+    let len = period.len();
+    let room = ring::least(table.len(), part.len());
+    if room / 4 < len {
+        add_around(period, from, vector, part);
+        return;
+    }
+    let whole = room - room % len;
+    let _laid = diagonals::rotate_slots_into(period, 0, &mut table[..whole]);
+    add_around(&table[..whole], from, vector, part);
+}
+
+// A part of a giant's node, from slot `slot` on: at each slot s the sum over n diagonals from the first
+// on, whose values stand from `start` on, of the rotated input at s times the diagonal at s - giant.
+// Gives where the next values start.
+fn make_part<'a>(
     babies: &[u32],
     giant: u32,
     first: usize,
@@ -17,66 +55,93 @@ fn add_diagonals<'a>(
     values: &[u64],
     input: &'a [u64],
     cache: &'a [u64],
-    node: &mut [u64],
+    slot: usize,
+    part: &mut [u64],
 ) -> usize
     requires { ⌜ GiantAsked (now babies) giant first n start (now pairs) (now values) (now input) (now cache) ⌝ }
-    requires { ⌜ Summing (now input) (now node) ⌝ }
-    ensures { λ r. ⌜ DiagonalsAdded (now (babies .entry)) giant first n (now (pairs .entry)) (now (values .entry)) (now (input .entry)) (now (cache .entry)) (now (node .exit)) r ⌝ }
+    requires { ⌜ PartAsked slot (now input) (now part) ⌝ }
+    ensures { λ r. ⌜ PartMade (now (babies .entry)) giant first n (now (pairs .entry)) (now (values .entry)) (now (input .entry)) (now (cache .entry)) slot (length (now (part .entry))) (now (part .exit)) r ⌝ }
 {
-    let g = ring::wide(giant);
+    let size = part.len();
+    crate::clear(part);
+    let back = slot + input.len() - ring::wide(giant);
+    let stop = slot + size;
     let mut table = [0u64; 512];
     let mut at = start;
     let mut i = 0;
     while i < n {
         let k = first + i;
-        let end = at + ring::wide(diagonals::length_at(pairs, k));
+        let len = ring::wide(diagonals::length_at(pairs, k));
+        let end = at + len;
         let baby = diagonals::offset_at(pairs, k) - giant;
         let vector = crate::caching::rotated_input(babies, baby, input, cache);
-        crate::add_diagonal(&values[at..end], g, vector, &mut table, node);
+        add_period(
+            &values[at..end],
+            back % len,
+            &vector[slot..stop],
+            &mut table,
+            part,
+        );
         at = end;
         i += 1;
     }
     at
 }
 
-// The node of a giant: its diagonals are read at s - giant, so what they add up to is turned back by
-// the giant.
-fn make_node<'a>(
+// Of each node `size` slots from `slot` on. The cuts say where each giant's diagonals start and how many
+// they are.
+fn make_tile<'a>(
     babies: &[u32],
-    giant: u32,
-    first: usize,
-    n: usize,
-    start: usize,
+    giants: &[u32],
+    cuts: &[u32],
     pairs: &[u32],
     values: &[u64],
     input: &'a [u64],
     cache: &'a [u64],
-    node: &mut [u64],
-) -> usize
-    requires { ⌜ GiantAsked (now babies) giant first n start (now pairs) (now values) (now input) (now cache) ⌝ }
-    requires { ⌜ length (now node) ≡ length (now input) ⌝ }
-    ensures { λ r. ⌜ NodeMade (now (babies .entry)) giant first n (now (pairs .entry)) (now (values .entry)) (now (input .entry)) (now (cache .entry)) (now (node .exit)) r ⌝ }
+    slot: usize,
+    size: usize,
+    nodes: &mut [u64],
+)
+    requires { ⌜ TileAsked (now babies) (now giants) (now cuts) (now pairs) (now values) (now input) (now cache) slot size (now nodes) ⌝ }
+    ensures { λ _. ⌜ TileMade (now (babies .entry)) (now (giants .entry)) (now (cuts .entry)) (now (pairs .entry)) (now (values .entry)) (now (input .entry)) (now (cache .entry)) slot size (now (nodes .entry)) (now (nodes .exit)) ⌝ }
 {
-    crate::clear(node);
-    let end = add_diagonals(
-        babies,
-        giant,
-        first,
-        n,
-        start,
-        pairs,
-        values,
-        input,
-        cache,
-        node,
-    );
-    let slots = node.len();
-    let back = (slots - ring::wide(giant)) % slots;
-    crate::turning::rotate_in_place(node, back);
-    end
+    let slots = input.len();
+    let mut values_at = 0;
+    let mut p = 0;
+    while p < giants.len() {
+        let first = ring::wide(cuts[2 * p]);
+        let n = ring::wide(cuts[2 * p + 1]);
+        let start = p * slots + slot;
+        let end = start + size;
+        values_at = make_part(
+            babies,
+            giants[p],
+            first,
+            n,
+            values_at,
+            pairs,
+            values,
+            input,
+            cache,
+            slot,
+            &mut nodes[start..end],
+        );
+        p += 1;
+    }
 }
 
-// One vector a giant, rising. The cuts say where each giant's diagonals start and how many they are.
+// How many slots of all nodes are made before the next ones, so that the rotated inputs are read from
+// the processor's own memory. Where the values are many they are what it waits for: then all at once.
+fn tile_of(values: usize) -> usize
+    ensures { λ r. ⌜ 1 ≤ r ⌝ }
+{
+    if values <= 1048576 {
+        return 4096;
+    }
+    65536
+}
+
+// One vector a giant, rising.
 pub(crate) fn make_nodes<'a>(
     babies: &[u32],
     giants: &[u32],
@@ -91,25 +156,22 @@ pub(crate) fn make_nodes<'a>(
     ensures { λ _. ⌜ NodesMade (now (babies .entry)) (now (giants .entry)) (now (cuts .entry)) (now (pairs .entry)) (now (values .entry)) (now (input .entry)) (now (cache .entry)) (now (nodes .entry)) (now (nodes .exit)) ⌝ }
 {
     let slots = input.len();
-    let mut values_at = 0;
-    let mut p = 0;
-    while p < giants.len() {
-        let first = ring::wide(cuts[2 * p]);
-        let n = ring::wide(cuts[2 * p + 1]);
-        let start = p * slots;
-        let end = start + slots;
-        values_at = make_node(
+    let tile = tile_of(values.len());
+    let mut slot = 0;
+    while slot < slots {
+        let size = ring::least(tile, slots - slot);
+        make_tile(
             babies,
-            giants[p],
-            first,
-            n,
-            values_at,
+            giants,
+            cuts,
             pairs,
             values,
             input,
             cache,
-            &mut nodes[start..end],
+            slot,
+            size,
+            nodes,
         );
-        p += 1;
+        slot += size;
     }
 }

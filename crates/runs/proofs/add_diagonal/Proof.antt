@@ -42,12 +42,12 @@ slice-reshare-prefix-add-blocks c = search needs
 slice-aggregate-add-blocks : tie.Need-slice-aggregate-add-blocks
 slice-aggregate-add-blocks c =
     let a = c .before .before .before .before .before .before .before .before .before .before .before in
-    sym (front-length (now (a .args .period)) (now (a .args .table)) _ (omega arith) (a .pre .1) (omega arith) (a .pre .0) (c .before .before .before .rotate-slots-into .ensures))
+    sym (front-length (now (a .args .period)) (now (a .args .table)) _ (omega arith) (a .pre .1) (omega arith) (a .pre .0 .some) (c .before .before .before .rotate-slots-into .ensures))
 
 add-blocks-requires-2 : tie.Need-add-blocks-requires-2
 add-blocks-requires-2 c κs =
     let a = c .before .before .before .before .before .before .before .before .before .before .before .before in
-    front-asked (now (a .args .period)) (now (a .args .table)) _ (omega arith) (a .pre .1) (omega arith) (a .pre .0) (c .before .before .before .before .rotate-slots-into .ensures)
+    front-asked (now (a .args .period)) (now (a .args .table)) _ (omega arith) (a .pre .1) (omega arith) (a .pre .0 .some) (c .before .before .before .before .rotate-slots-into .ensures) (a .pre .0)
 
 same-length-2 : tie.Need-same-length-2
 same-length-2 c = search needs
@@ -58,7 +58,7 @@ same-length-3 c = search needs
 returns-2 : tie.Need-returns-2
 returns-2 c =
     let a = c .before .before .before .before .before .before .before .before .before .before .before .before .before .before .before in
-    front-added (now (a .args .period)) (now (a .args .table)) _ (omega arith) (a .pre .1) (omega arith) (a .pre .0) (c .before .before .before .before .before .before .before .rotate-slots-into .ensures) (c .before .before .add-blocks2 .ensures)
+    front-added (now (a .args .period)) (now (a .args .table)) _ (omega arith) (a .pre .1) (omega arith) (a .pre .0 .some) (c .before .before .before .before .before .before .before .rotate-slots-into .ensures) (a .pre .0) (c .before .before .add-blocks2 .ensures)
 
 pub add-diagonal-spec : {M : Type 1} → statement M
 add-diagonal-spec =

@@ -5,13 +5,11 @@ use mathlib.Core.Path.{_≡_}
 use mathlib.Core.Bool.{true}
 use mathlib.Core.List.{List}
 use lib.ListN.{length, getD}
-use Rattle.ring.specs.Slots.{modulus}
-use Rattle.ring.specs.Lists.{join, sumBy, among}
+use Rattle.ring.specs.Slots.{modulus, addm, mulm}
+use Rattle.ring.specs.Lists.{join, among}
 use Rattle.ring.specs.Vectors.{tabulate, inFront}
-use Rattle.diagonals.specs.Maps.{offsetAt, diagonalAt, startAt, WellFormed}
-use Rattle.diagonals.specs.Products.{term}
-use Rattle.runs.specs.Switches.{sourceOf}
-use Rattle.runs.specs.Machines.{sourceVector}
+use Rattle.diagonals.specs.Maps.{offsetAt, startAt, WellFormed}
+use Rattle.diagonals.specs.Products.{cell}
 use Rattle.runs.specs.Steps.Keyed.{Babies, nodeRun}
 
 -- the diagonals first .. first + n - 1 of a map are those of giant g: each is g and a baby of the list
@@ -29,25 +27,21 @@ pub record GiantAsked (bs : List ℕ) (g first n start : ℕ) (pairs values inpu
   pub run : GiantRun bs g first n count pairs input
   pub start-is : start ≡ startAt pairs first
 
--- a vector of zeros
-pub record Summing (input node : List ℕ) : Type 0 where
-  pub blank : node ≡ tabulate (length input) (λ s. 0)
+-- a period around which words are read, from one of its own on
+pub record Around (period : List ℕ) (from : ℕ) (vector part : List ℕ) : Type 0 where
+  pub low : from < length period
+  pub same : length vector ≡ length part
 
--- what the i-th diagonal adds at slot s: its value there times the rotated input at s + g
-abbrev pub turnedTerm : List ℕ → ℕ → List ℕ → List ℕ → List ℕ → List ℕ → ℕ → ℕ → ℕ
-turnedTerm bs g pairs values input cache s i =
-    term modulus (length input) (sourceVector (length input) input cache (sourceOf bs (offsetAt pairs i - g))) s (record { offset = g; values = diagonalAt pairs values i .values })
+-- part[j] and the period's word at from + j times vector[j]
+abbrev pub aroundAdded : List ℕ → ℕ → List ℕ → List ℕ → ℕ → ℕ
+aroundAdded period from vector part j = addm modulus (getD part j 0) (mulm modulus (cell period (from + j)) (getD vector j 0))
 
--- the sum over n diagonals from the first on
-abbrev pub turnedRun : List ℕ → ℕ → ℕ → ℕ → List ℕ → List ℕ → List ℕ → List ℕ → ℕ → ℕ
-turnedRun bs g first n pairs values input cache s = sumBy modulus (turnedTerm bs g pairs values input cache s) (tabulate n (λ i. first + i))
+-- a part of a node, from a slot on
+pub record PartAsked (slot : ℕ) (input part : List ℕ) : Type 0 where
+  pub inside : slot + length part ≤ length input
 
-pub record DiagonalsAdded (bs : List ℕ) (g first n : ℕ) (pairs values input cache node : List ℕ) (r : ℕ) : Type 0 where
-  pub sum : node ≡ tabulate (length input) (turnedRun bs g first n pairs values input cache)
-  pub end : r ≡ startAt pairs (first + n)
-
-pub record NodeMade (bs : List ℕ) (g first n : ℕ) (pairs values input cache node : List ℕ) (r : ℕ) : Type 0 where
-  pub node-is : node ≡ tabulate (length input) (nodeRun modulus (length input) bs pairs values input cache g first n)
+pub record PartMade (bs : List ℕ) (g first n : ℕ) (pairs values input cache : List ℕ) (slot size : ℕ) (part : List ℕ) (r : ℕ) : Type 0 where
+  pub part-is : part ≡ tabulate size (λ j. nodeRun modulus (length input) bs pairs values input cache g first n (slot + j))
   pub end : r ≡ startAt pairs (first + n)
 
 -- all giants: their diagonals stand one after the other
@@ -65,6 +59,23 @@ pub record NodesAsked (bs gs cuts pairs values input cache nodes : List ℕ) : T
 -- the p-th node at slot s
 abbrev pub nodeSlot : List ℕ → List ℕ → List ℕ → List ℕ → List ℕ → List ℕ → List ℕ → ℕ → ℕ → ℕ
 nodeSlot bs gs cuts pairs values input cache p = nodeRun modulus (length input) bs pairs values input cache (getD gs p 0) (getD cuts (2 * p) 0) (getD cuts (2 * p + 1) 0)
+
+-- n nodes of which each is made up to a slot; all else is as it was
+pub record MadeTo (f : ℕ → ℕ → ℕ) (n slots : ℕ) (upto : ℕ → ℕ) (old new : List ℕ) : Type 0 where
+  pub len : length new ≡ length old
+  pub done : (p s : ℕ) → p < n → s < slots → s < upto p → getD new (p * slots + s) 0 ≡ f p s
+  pub todo : (p s : ℕ) → p < n → s < slots → upto p ≤ s → getD new (p * slots + s) 0 ≡ getD old (p * slots + s) 0
+  pub behind : (i : ℕ) → n * slots ≤ i → getD new i 0 ≡ getD old i 0
+
+pub record TileAsked (bs gs cuts pairs values input cache : List ℕ) (slot size : ℕ) (nodes : List ℕ) : Type 0 where
+  pub asked : NodesAsked bs gs cuts pairs values input cache nodes
+  pub inside : slot + size ≤ length input
+
+-- nodes that were made up to a slot are made `size` slots further
+pub record TileMade (bs gs cuts pairs values input cache : List ℕ) (slot size : ℕ) (nodes nodes' : List ℕ) : Type 0 where
+  pub len : length nodes' ≡ length nodes
+  pub further : (old : List ℕ) → MadeTo (nodeSlot bs gs cuts pairs values input cache) (length gs) (length input) (λ p. slot) old nodes
+      → MadeTo (nodeSlot bs gs cuts pairs values input cache) (length gs) (length input) (λ p. slot + size) old nodes'
 
 -- the first n nodes
 abbrev pub firstNodes : List ℕ → List ℕ → List ℕ → List ℕ → List ℕ → List ℕ → List ℕ → ℕ → List ℕ
