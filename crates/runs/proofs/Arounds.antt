@@ -10,7 +10,7 @@ use lib.Seq.{getD-take, getD-drop}
 use Rattle.ring.specs.Vectors.{Filling}
 use Rattle.ring.specs.Calls.{MultiplyAdd}
 use Rattle.ring.specs.Laws.Vectors.{tabulate-cong, filling-block, filling-rest}
-use Rattle.runs.specs.Steps.Nodes.{Around, aroundAdded}
+use Rattle.runs.specs.Steps.Plain.{Around, aroundAdded}
 use Rattle.runs.proofs.Parts.{accepted, same-word}
 
 module _ {period vector part₀ part : List ℕ} {from s : ℕ} (a : Around period from vector part₀) (f : Filling (aroundAdded period from vector part₀) part₀ part s) (l : s < length part₀) where

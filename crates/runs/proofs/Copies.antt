@@ -1,4 +1,4 @@
--- Whole copies of a period laid out in a table: a block that stands for the same diagonal.
+-- Whole copies of a period laid out in a table: read around, they are the period.
 -- Assumes nothing.
 use Prim.Native.Nat.{ℕ, _+_, _-_, _*_, _/_, _%_, _≤_, _<_, _∣_}
 use mathlib.Core.Path.{_≡_, refl, ap, _∙_}
@@ -15,8 +15,7 @@ use Rattle.ring.specs.Laws.Divisors.{divides-yes}
 use Rattle.ring.specs.Laws.Refusals.{not-outside, onAccept-accepted}
 use Rattle.diagonals.specs.Calls.{Rotated}
 use Rattle.diagonals.specs.Products.{cell}
-use Rattle.runs.specs.Steps.Plain.{diagonalAdded, Repeated}
-use Rattle.runs.specs.Steps.Nodes.{Around, aroundAdded}
+use Rattle.runs.specs.Steps.Plain.{Around, aroundAdded}
 use Rattle.runs.proofs.Parts.{same-word}
 
 -- copies of a period read at a slot
@@ -64,18 +63,6 @@ module _ (period table : List ℕ) (room : ℕ) (within : room ≤ length table)
 
   front-cell : (s : ℕ) → cell (front period table room ys) s ≡ cell period s
   front-cell s = ap (λ (x : List ℕ). cell x s) front-is ∙ cell-copies period _ s (whole-some room (length period) some fits) (whole-divided room (length period))
-
-  -- ---- around the input
-
-  module _ {input out : List ℕ} {k : ℕ} (w : Repeated period k input out) where
-    pub front-asked : Repeated (front period table room ys) k input out
-    front-asked = record { some = rw front-length (whole-some room (length period) some fits); low = w .low; whole = w .whole }
-
-    -- what is added of the copies is the diagonal
-    pub front-added : {new : List ℕ} → new ≡ tabulate (length out) (diagonalAdded (front period table room ys) k input out) → new ≡ tabulate (length out) (diagonalAdded period k input out)
-    front-added e = e ∙ tabulate-cong (length out) _ _ (λ s l. same-word refl (front-cell s) refl)
-
-  -- ---- around the period
 
   module _ {from : ℕ} {vector part : List ℕ} (a : Around period from vector part) where
     pub copies-asked : Around (front period table room ys) from vector part

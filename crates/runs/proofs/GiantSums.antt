@@ -22,7 +22,8 @@ use Rattle.runs.specs.Switches.{placeOf, sourceOf}
 use Rattle.runs.specs.Machines.{sourceVector}
 use Rattle.runs.specs.Laws.Places.{inside-first, length-vectorAt}
 use Rattle.runs.specs.Steps.Keyed.{Babies, Reading, nodeTerm, nodeRun}
-use Rattle.runs.specs.Steps.Nodes.{GiantAsked, Around, aroundAdded, PartMade}
+use Rattle.runs.specs.Steps.Plain.{Around, aroundAdded}
+use Rattle.runs.specs.Steps.Nodes.{GiantAsked, PartMade}
 use Rattle.runs.proofs.Babies.{place-within}
 
 -- a rotated input is as long as the input

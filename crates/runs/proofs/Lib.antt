@@ -1,6 +1,5 @@
 -- What the loops keep, and a turn of each; the parts that are lent.
 pub mod Parts
-pub mod Blocks
 pub mod Arounds
 pub mod Copies
 pub mod Adding

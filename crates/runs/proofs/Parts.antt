@@ -1,9 +1,9 @@
--- The two parts of a run: what `multiply_add_into` leaves in each, and both together.
+-- What `multiply_add_into` leaves, and the two parts of a diagonal: up to the input's end and from its start on.
 -- Assumes nothing.
-use Prim.Native.Nat.{ℕ, _+_, _-_, _%_, _≤_, _<_, min}
+use Prim.Native.Nat.{ℕ, _+_, _-_, _%_, _≤_, _<_}
 use mathlib.Core.Path.{_≡_, sym, ap, _∙_}
 use mathlib.Core.List.{List, _++_}
-use native.Mathlib.Nat.{mod-eq-of-lt, add-mod-left}
+use native.Mathlib.Nat.{zero-add, add-comm, mod-lt, mod-eq-of-lt, mod-add-mod, add-mod-left}
 use native.Mathlib.Omega.{arith}
 use borrow.Author.Tests.{eq-eqb}
 use lib.ListN.{length, getD, take, drop, length-take, length-drop}
@@ -13,7 +13,8 @@ use Rattle.ring.specs.Vectors.{tabulate, filled, Filling}
 use Rattle.ring.specs.Calls.{productAdded, MultiplyAdd}
 use Rattle.ring.specs.Laws.Vectors.{tabulate-cong, length-filled, filling-block, filling-rest, filling-done}
 use Rattle.ring.specs.Laws.Refusals.{onAccept-accepted}
-use Rattle.runs.specs.Steps.Plain.{runAdded, Run}
+use Rattle.diagonals.specs.Products.{cell}
+use Rattle.runs.specs.Steps.Plain.{Around, aroundAdded, diagonalAdded, Repeated}
 
 -- three of one length are accepted
 pub accepted : {a b old new : List ℕ} {r : ℕ} (n : ℕ) → MultiplyAdd a b old new r → length a ≡ n → length b ≡ n → length old ≡ n → new ≡ tabulate n (productAdded a b old)
@@ -30,50 +31,70 @@ filling-first f d₀ k ys l e = record { so-far = ap (λ (x : List _). x ++ drop
 pub same-word : {a a' b b' x x' : ℕ} → x ≡ x' → a ≡ a' → b ≡ b' → addm modulus x (mulm modulus a b) ≡ addm modulus x' (mulm modulus a' b')
 same-word p q r = cc
 
-module _ {block input out : List ℕ} {from head : ℕ} (w : Run block input from out) (h : head ≡ min (length out) (length input - from)) where
+module _ {period input out : List ℕ} {k : ℕ} (w : Repeated period k input out) where
+  abbrev head : ℕ
+  head = length out - k
+
+  -- the input from k on
+  abbrev later : List ℕ
+  later = take (length input - k) (drop k input)
+
   abbrev word : ℕ → ℕ
-  word = runAdded block input from out
+  word = diagonalAdded period k input out
+
+  pub front-asked : Around period 0 later (take head out)
+  front-asked = record { low = w .some; same = simp (length-take, length-drop) (omega (arith, w .low, w .whole)) }
 
   -- up to the input's end
-  front : {ys : List ℕ} {r : ℕ} → MultiplyAdd (take head block) (take (from + head - from) (drop from input)) (take head out) ys r → ys ≡ tabulate head word
-  front {ys} m =
-      accepted head m
-      (length-take-le head block (omega (arith, w .same)))
-      (simp (length-take, length-drop) (omega (arith, w .within)))
-      (length-take-le head out (omega arith))
+  front : {ys : List ℕ} → ys ≡ tabulate (length (take head out)) (aroundAdded period 0 later (take head out)) → ys ≡ tabulate head word
+  front e =
+      e
+      ∙ ap (λ (x : ℕ). tabulate x (aroundAdded period 0 later (take head out))) (length-take-le head out (omega arith))
       ∙ tabulate-cong head _ _
-      (λ i l.
-      let s : from + i < length input = omega arith in
-      let t : i < from + head - from = omega arith in
+      (λ j l.
+      let s : j + k < length input = omega (arith, w .low, w .whole) in
+      let t : j < length input - k = omega arith in
       same-word
-      (getD-take head out i 0 l)
-      (getD-take head block i 0 l)
-      (getD-take (from + head - from) (drop from input) i 0 t ∙ getD-drop from input i 0 ∙ ap (λ (x : ℕ). getD input x 0) (sym (mod-eq-of-lt s))))
+      (getD-take head out j 0 l)
+      (ap (cell period) (zero-add j))
+      (getD-take (length input - k) (drop k input) j 0 t ∙ getD-drop k input j 0 ∙ ap (λ (x : ℕ). getD input x 0) (add-comm k j ∙ sym (mod-eq-of-lt s))))
 
-  -- from the input's start on
-  back : {d zs : List ℕ} {r : ℕ} → Filling word out d head → MultiplyAdd (take (length block - head) (drop head block)) (take (length out - head) input) (take (length d - head) (drop head d)) zs r → zs ≡ tabulate (length d - head) (λ i. word (head + i))
-  back {d} {zs} f m =
-      accepted (length d - head) m
-      (simp (length-take, length-drop) (omega (arith, w .same, f .len)))
-      (simp length-take (omega (arith, w .once, f .len)))
-      (simp (length-take, length-drop) (omega arith))
-      ∙ tabulate-cong (length d - head) _ _
-      (λ i l.
-      let e : from + (head + i) ≡ length input + i = omega (arith, f .len, w .within, w .once) in
-      let s : i < length input = omega (arith, f .len, w .within, w .once) in
-      let t : i < length block - head = omega (arith, f .len, w .same) in
-      let u : i < length out - head = omega (arith, f .len) in
-      same-word
-      (getD-take (length d - head) (drop head d) i 0 l ∙ getD-drop head d i 0 ∙ filling-rest f (head + i) 0 (omega arith))
-      (getD-take (length block - head) (drop head block) i 0 t ∙ getD-drop head block i 0)
-      (getD-take (length out - head) input i 0 u ∙ ap (λ (x : ℕ). getD input x 0) (sym (ap (λ (x : ℕ). x % length input) e ∙ add-mod-left (length input) i ∙ mod-eq-of-lt s))))
+  module _ {d : List ℕ} (f : Filling word out d head) where
+    abbrev rest : List ℕ
+    rest = take (length d - head) (drop head d)
 
-  pub run : {ys zs : List ℕ} {r₁ r₂ : ℕ}
-      → MultiplyAdd (take head block) (take (from + head - from) (drop from input)) (take head out) ys r₁
-      → MultiplyAdd (take (length block - head) (drop head block)) (take (length out - head) input) (take (length (ys ++ drop head out) - head) (drop head (ys ++ drop head out))) zs r₂
-      → take head (ys ++ drop head out) ++ (zs ++ drop (length (ys ++ drop head out) - head) (drop head (ys ++ drop head out))) ≡ tabulate (length out) word
-  run {ys} {zs} m₁ m₂ =
-      let d : List ℕ = ys ++ drop head out in
-      let f : Filling word out d head = filling-first word out head ys (omega arith) (front m₁) in
-      let g = filling-block f (length d - head) (length d) zs (omega (arith, f .len)) (omega arith) (back f m₂) in
-      filling-done g (omega (arith, g .len, f .len))
+    rest-length : length rest ≡ k
+    rest-length = simp (length-take, length-drop) (omega (arith, f .len, w .low))
+
+    rest-asked : Around period (head % length period) (take k input) rest
+    rest-asked = record { low = mod-lt head (w .some); same = length-take-le k input (omega (arith, w .low, w .whole)) ∙ sym rest-length }
+
+    -- from the input's start on
+    back : {zs : List ℕ} → zs ≡ tabulate (length rest) (aroundAdded period (head % length period) (take k input) rest) → zs ≡ tabulate (length d - head) (λ i. word (head + i))
+    back e =
+        e
+        ∙ ap (λ (x : ℕ). tabulate x (aroundAdded period (head % length period) (take k input) rest)) (let q : length rest ≡ length d - head = omega (arith, rest-length, f .len, w .low) in q)
+        ∙ tabulate-cong (length d - head) _ _
+        (λ j l.
+        let u : j < k = omega (arith, f .len) in
+        let here : head + j + k ≡ length input + j = omega (arith, w .low, w .whole) in
+        let s : j < length input = omega (arith, w .low, w .whole) in
+        same-word
+        (getD-take (length d - head) (drop head d) j 0 l ∙ getD-drop head d j 0 ∙ filling-rest f (head + j) 0 (omega arith))
+        (ap (λ (x : ℕ). getD period x 0) (mod-add-mod head (length period) j))
+        (getD-take k input j 0 u ∙ ap (λ (x : ℕ). getD input x 0) (sym (ap (λ (x : ℕ). x % length input) here ∙ add-mod-left (length input) j ∙ mod-eq-of-lt s))))
+
+  module _ {ys : List ℕ} (m : ys ≡ tabulate (length (take head out)) (aroundAdded period 0 later (take head out))) where
+    filling : Filling word out (ys ++ drop head out) head
+    filling = filling-first word out head ys (omega arith) (front m)
+
+    pub back-asked : Around period (head % length period) (take k input) (take (length (ys ++ drop head out) - head) (drop head (ys ++ drop head out)))
+    back-asked = rest-asked filling
+
+    pub both : {zs : List ℕ} → zs ≡ tabulate (length (take (length (ys ++ drop head out) - head) (drop head (ys ++ drop head out)))) (aroundAdded period (head % length period) (take k input) (take (length (ys ++ drop head out) - head) (drop head (ys ++ drop head out))))
+        → take head (ys ++ drop head out) ++ (zs ++ drop (length (ys ++ drop head out) - head) (drop head (ys ++ drop head out))) ≡ tabulate (length out) word
+    both {zs} e =
+        let d : List ℕ = ys ++ drop head out in
+        let f : Filling word out d head = filling in
+        let g = filling-block f (length d - head) (length d) zs (omega (arith, f .len)) (omega arith) (back f e) in
+        filling-done g (omega (arith, g .len, f .len))

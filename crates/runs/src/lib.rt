@@ -5,6 +5,7 @@ mod caching;
 mod giants;
 pub mod keyed;
 mod nodes;
+mod products;
 mod turning;
 
 ghost use mathlib.Core.Path.{_≡_};
@@ -15,7 +16,7 @@ ghost use Rattle.ring.specs.Vectors.{tabulate};
 ghost use Rattle.diagonals.specs.Maps.{view, WellFormed};
 ghost use Rattle.diagonals.specs.Products.{product};
 ghost use Rattle.runs.specs.Calls.{Evaluated};
-ghost use Rattle.runs.specs.Steps.Plain.{runAdded, diagonalAdded, Run, Repeated};
+ghost use Rattle.runs.specs.Steps.Plain.{diagonalAdded, Repeated};
 
 pub(crate) fn clear(out: &mut [u64])
     ensures { λ _. ⌜ now (out .exit) ≡ tabulate (length (now (out .entry))) (λ i. 0) ⌝ }
@@ -25,58 +26,16 @@ pub(crate) fn clear(out: &mut [u64])
     }
 }
 
-// Adds block[j]·input[from + j] to out[j], around the input: in two parts where the end of the
-// input lies within.
-fn add_run(block: &[u64], input: &[u64], from: usize, out: &mut [u64])
-    requires { ⌜ Run (now block) (now input) from (now out) ⌝ }
-    ensures { λ _. ⌜ now (out .exit) ≡ tabulate (length (now (out .entry))) (runAdded (now (block .entry)) (now (input .entry)) from (now (out .entry))) ⌝ }
-{
-    let n = out.len();
-    let head = ring::least(n, input.len() - from);
-    let end = from + head;
-    let _front = ring::multiply_add_into(&block[..head], &input[from..end], &mut out[..head]);
-    let rest = n - head;
-    let _back = ring::multiply_add_into(&block[head..], &input[..rest], &mut out[head..]);
-}
-
-// Adds block[s mod its length]·input[s + k] to out[s], around the input.
-fn add_blocks(block: &[u64], k: usize, input: &[u64], out: &mut [u64])
-    requires { ⌜ Repeated (now block) k (now input) (now out) ⌝ }
-    ensures { λ _. ⌜ now (out .exit) ≡ tabulate (length (now (out .entry))) (diagonalAdded (now (block .entry)) k (now (input .entry)) (now (out .entry))) ⌝ }
-{
-    let slots = out.len();
-    let m = block.len();
-    let mut s = 0;
-    while s < slots {
-        let n = ring::least(m, slots - s);
-        let end = s + n;
-        add_run(&block[..n], input, (s + k) % slots, &mut out[s..end]);
-        s = end;
-    }
-}
-
-// Adds a diagonal, given by one period. Where four copies of the period fit the table they are laid
-// out there first, so that runs are long.
-pub(crate) fn add_diagonal(
-    period: &[u64],
-    k: usize,
-    input: &[u64],
-    table: &mut [u64],
-    out: &mut [u64],
-)
+// Adds a diagonal, given by one period: times the input from k on up to its end, and from its start on.
+fn add_diagonal(period: &[u64], k: usize, input: &[u64], table: &mut [u64], out: &mut [u64])
     requires { ⌜ Repeated (now period) k (now input) (now out) ⌝ }
     requires { ⌜ length (now table) ≤ 65536 ⌝ }
     ensures { λ _. ⌜ now (out .exit) ≡ tabulate (length (now (out .entry))) (diagonalAdded (now (period .entry)) k (now (input .entry)) (now (out .entry))) ⌝ }
 {
-    let len = period.len();
-    let room = ring::least(table.len(), out.len());
-    if room / 4 < len {
-        add_blocks(period, k, input, out);
-        return;
-    }
-    let whole = room - room % len;
-    let _laid = diagonals::rotate_slots_into(period, 0, &mut table[..whole]);
-    add_blocks(&table[..whole], k, input, out);
+    let head = out.len() - k;
+    products::add_period(period, 0, &input[k..], table, &mut out[..head]);
+    let from = head % period.len();
+    products::add_period(period, from, &input[..k], table, &mut out[head..]);
 }
 
 // The map times the input. A larger table is no faster at 65,536 slots, and a small map pays for

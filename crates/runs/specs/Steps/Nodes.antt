@@ -5,11 +5,10 @@ use mathlib.Core.Path.{_≡_}
 use mathlib.Core.Bool.{true}
 use mathlib.Core.List.{List}
 use lib.ListN.{length, getD}
-use Rattle.ring.specs.Slots.{modulus, addm, mulm}
+use Rattle.ring.specs.Slots.{modulus}
 use Rattle.ring.specs.Lists.{join, among}
 use Rattle.ring.specs.Vectors.{tabulate, inFront}
 use Rattle.diagonals.specs.Maps.{offsetAt, startAt, WellFormed}
-use Rattle.diagonals.specs.Products.{cell}
 use Rattle.runs.specs.Steps.Keyed.{Babies, nodeRun}
 
 -- the diagonals first .. first + n - 1 of a map are those of giant g: each is g and a baby of the list
@@ -26,15 +25,6 @@ pub record GiantAsked (bs : List ℕ) (g first n start : ℕ) (pairs values inpu
   pub babies : Babies bs input cache
   pub run : GiantRun bs g first n count pairs input
   pub start-is : start ≡ startAt pairs first
-
--- a period around which words are read, from one of its own on
-pub record Around (period : List ℕ) (from : ℕ) (vector part : List ℕ) : Type 0 where
-  pub low : from < length period
-  pub same : length vector ≡ length part
-
--- part[j] and the period's word at from + j times vector[j]
-abbrev pub aroundAdded : List ℕ → ℕ → List ℕ → List ℕ → ℕ → ℕ
-aroundAdded period from vector part j = addm modulus (getD part j 0) (mulm modulus (cell period (from + j)) (getD vector j 0))
 
 -- a part of a node, from a slot on
 pub record PartAsked (slot : ℕ) (input part : List ℕ) : Type 0 where

@@ -1,21 +1,20 @@
--- What the private steps of the plain run ask and ensure.
+-- What the private steps of the plain run ask and ensure, and those by which both runs add.
 -- Assumes nothing.
-use Prim.Native.Nat.{ℕ, _+_, _%_, _≤_, _<_}
+use Prim.Native.Nat.{ℕ, _+_, _≤_, _<_}
 use mathlib.Core.Path.{_≡_}
 use mathlib.Core.List.{List}
 use lib.ListN.{length, getD}
 use Rattle.ring.specs.Slots.{modulus, addm, mulm}
-use Rattle.diagonals.specs.Products.{term}
+use Rattle.diagonals.specs.Products.{cell, term}
 
--- out[j] + block[j]·input[from + j], around the input
-abbrev pub runAdded : List ℕ → List ℕ → ℕ → List ℕ → ℕ → ℕ
-runAdded block input from out j = addm modulus (getD out j 0) (mulm modulus (getD block j 0) (getD input ((from + j) % length input) 0))
+-- a period around which words are read, from one of its own on
+pub record Around (period : List ℕ) (from : ℕ) (vector part : List ℕ) : Type 0 where
+  pub low : from < length period
+  pub same : length vector ≡ length part
 
--- a run of at most the input's length, which starts within the input
-pub record Run (block input : List ℕ) (from : ℕ) (out : List ℕ) : Type 0 where
-  pub same : length block ≡ length out
-  pub within : from < length input
-  pub once : length out ≤ length input
+-- part[j] and the period's word at from + j times vector[j]
+abbrev pub aroundAdded : List ℕ → ℕ → List ℕ → List ℕ → ℕ → ℕ
+aroundAdded period from vector part j = addm modulus (getD part j 0) (mulm modulus (cell period (from + j)) (getD vector j 0))
 
 -- out[s] and the term of a diagonal: offset k and one period of its values
 abbrev pub diagonalAdded : List ℕ → ℕ → List ℕ → List ℕ → ℕ → ℕ

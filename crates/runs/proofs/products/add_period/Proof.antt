@@ -1,4 +1,4 @@
--- `runs::nodes::add_period` meets its contract. Assumes nothing.
+-- `runs::products::add_period` meets its contract. Assumes nothing.
 use native.Mathlib.Omega.{arith}
 use borrow.Author.Needs.{needs}
 use mathlib.Core.Path.{sym}
@@ -7,8 +7,8 @@ use denote.Ref.{now}
 use lib.Seq.{length-take-le}
 use Rattle.runs.proofs.Copies.{front-length, copies-asked, copies-added}
 use borrow.Author.Needs.{needs}
-use Rattle.runs.proofs.nodes.add_period.Statement.{statement}
-use Rattle.runs.proofs.nodes.add_period.Tie as tie
+use Rattle.runs.proofs.products.add_period.Statement.{statement}
+use Rattle.runs.proofs.products.add_period.Tie as tie
 
 least-requires : tie.Need-least-requires
 least-requires c κs = search needs

@@ -1,12 +1,12 @@
--- `runs::nodes::add_around` meets its contract. Assumes nothing.
+-- `runs::products::add_around` meets its contract. Assumes nothing.
 use native.Mathlib.Omega.{arith}
 use borrow.Author.Needs.{needs}
-use Rattle.runs.proofs.nodes.add_around.Statement.{statement}
-use Rattle.runs.proofs.nodes.add_around.Tie as tie
+use Rattle.runs.proofs.products.add_around.Statement.{statement}
+use Rattle.runs.proofs.products.add_around.Tie as tie
 use Prim.Native.Nat.{_-_}
 use Rattle.ring.specs.Vectors.{Filling}
 use Rattle.ring.specs.Laws.Vectors.{filling-none, filling-done}
-use Rattle.runs.specs.Steps.Nodes.{aroundAdded}
+use Rattle.runs.specs.Steps.Plain.{aroundAdded}
 use Rattle.runs.proofs.Arounds.{at-low, period-room, run-some, around-more}
 
 abbrev Inv-loop : tie.InvT-loop
