@@ -1,21 +1,19 @@
--- The table of a plan's keys: what is marked, what the held list takes away, and whether a mark is left; and the numbers of
--- a plan.
+-- The table of held keys, whether a plan's key is not in it, and the numbers of a plan.
 -- Assumes nothing.
-use Prim.Native.Nat.{ℕ, zero, suc, _+_, _/_, _≤_, _<_}
-use mathlib.Core.Path.{_≡_, refl, sym, ap, ap₂, _∙_}
-use mathlib.Core.Bool.{Bool, true, false, not, _&&_, _||_, true≢false, or-true, or-false, or-assoc}
-use mathlib.Core.List.{List, [], _∷_, _++_, map}
-use native.Mathlib.Nat.{suc-ne-zero, div-one}
+use Prim.Native.Nat.{ℕ, zero, suc, _+_, _-_, _%_, _≤_, _<_}
+use mathlib.Core.Path.{_≡_, refl, sym, ap, _∙_}
+use mathlib.Core.Logic.{⊎-elim}
+use mathlib.Core.Bool.{Bool, true, false, not, _||_, true≢false, or-false}
+use mathlib.Core.List.{List, [], _∷_}
+use native.Mathlib.Nat.{suc-ne-zero, mod-lt}
 use native.Mathlib.Numerals.{add-one}
-use native.Mathlib.Decide.{ℕ-discrete}
 use native.Mathlib.Omega.{arith}
-use borrow.Author.Tests.{eq-eqb, ne-eqb, eqb-false, not-true, le-ltb}
+use borrow.Author.Tests.{eqb-true, ne-eqb, le-ltb}
 use lib.Dec.{eqb, ltb}
-use lib.ListN.{length, getD, set, take, drop, length-set, List·getD-eq-default}
-use lib.Seq.{take-suc, take-all, take-at, getD-take, length-take-le, getD-set-same, getD-set-other}
-use Rattle.ring.specs.Lists.{among, Each}
+use lib.ListN.{length, getD, set, take, drop, length-set}
+use lib.Seq.{take-suc, take-all, take-at, getD-take, length-take-le}
+use Rattle.ring.specs.Lists.{some, among, Each}
 use Rattle.ring.specs.Marks.{marks, Unmarked}
-use Rattle.ring.specs.Searches.{below}
 use Rattle.ring.specs.Vectors.{inFront}
 use Rattle.ring.specs.Refusals.{firstOf}
 use Rattle.ring.specs.declared.Answer.{Answer}
@@ -23,68 +21,87 @@ use Rattle.ring.specs.declared.Answer.the-variants as Got
 use Rattle.ring.specs.Laws.Answers.{no-refused, same-value}
 use Rattle.ring.specs.Laws.Lists.{each-then, each-at}
 use Rattle.ring.specs.Laws.Searches.{both, first, second}
-use Rattle.ring.specs.Laws.Members.{some-append, among-head, among-some, among-below, below-among, each-among}
+use Rattle.ring.specs.Laws.Members.{some-append, one-of, left, right, among-left, among-right, among-split, among-some, below-among, each-among}
 use Rattle.linear_transformation.specs.declared.LinearTransformationStrategy.{LinearTransformationStrategy}
 use Rattle.linear_transformation.specs.declared.LinearTransformationStrategy.the-variants.{Bsgs, BsgsPowersOfTwo, Direct}
 use Rattle.linear_transformation.specs.declared.stored.NeedsAnswer.the-variants as Needed
-use Rattle.linear_transformation.specs.Plans.{babies, giants, widthOf}
+use Rattle.linear_transformation.specs.Plans.{babyOf, giantOf, babies, giants, widthOf}
 use Rattle.linear_transformation.specs.Closures.{nonzeros}
 use Rattle.linear_transformation.specs.Schedules.{planBabies, keysPerRotation, planKeys, giantSwitches, planSwitches}
 use Rattle.linear_transformation.specs.Calls.{ListWritten}
 use Rattle.linear_transformation.specs.Stored.{isMissing, pairCount, stepOf, needsRefusal, planNeeds}
-use Rattle.linear_transformation.specs.Steps.Plans.{Diagonals, BabiesMarked, StepIs, RunFrom}
+use Rattle.linear_transformation.specs.Steps.Plans.{Diagonals, StepIs}
 use Rattle.linear_transformation.specs.Steps.Keys.{Sizable, Accepted, Switches, BabySwitches}
-use Rattle.linear_transformation.specs.Steps.Stored.{StoredJudged, KeysMarked, MarkedToo, Unheld, Listed, PairsAre}
-use Rattle.linear_transformation.specs.Laws.Plans.{giant-le}
-use Rattle.linear_transformation.specs.Laws.Runs.{some-member, giants-bound, babies-bound, planned-bound, giants-none, Walked, walked-none, walked-more, walked-giants}
+use Rattle.linear_transformation.specs.Steps.Stored.{StoredJudged, HeldMarked, turnLacked, Lacking, Listed, PairsAre}
+use Rattle.linear_transformation.specs.Laws.Plans.{baby-le, giant-le, babies-have, giants-have}
+use Rattle.linear_transformation.specs.Laws.Runs.{some-member, giants-bound, babies-bound, planned-bound}
 use Rattle.linear_transformation.specs.Laws.CommonDivisors.{babyStep-bound}
 use Rattle.linear_transformation.specs.Laws.Tables.{agree}
 use Rattle.linear_transformation.specs.Laws.Stored.{keys-low, power-keys-few, babies-switched}
 use Rattle.linear_transformation.proofs.Writings.{mark-more}
+use Rattle.linear_transformation.proofs.BabyChecks.{some-here}
 use Rattle.linear_transformation.proofs.Plannings.{diagonal-low}
 use Rattle.linear_transformation.proofs.Storings.{stored-first, stored-later}
 
--- ---- one mark more
+-- ---- the held list
 
-pub marked-none : {old : List Bool} → length old ≡ 65536 → MarkedToo [] old old
-marked-none {old} e = record { size = e; are = λ k. sym (or-false (marks old k)) }
+-- the first t held numbers are marked
+pub record Holding (held : List ℕ) (seen : List Bool) (t : ℕ) : Type 0 where
+  pub room : t ≤ length held
+  pub so-far : HeldMarked (take t held) seen
 
-pub marked-more : {gs : List ℕ} {old new : List Bool} → MarkedToo gs old new → (o : ℕ) → o < 65536 → MarkedToo (gs ++ (o ∷ [])) old (set new o true)
-marked-more {gs} {old} {new} m o l =
-    record {
-      size = simp length-set (m .size);
-      are = λ k.
-          mark-more new o k (omega (arith, m .size))
-          ∙ ap (λ (b : Bool). b || (eqb o k || false)) (m .are k)
-          ∙ or-assoc (marks old k) (among k gs) (eqb o k || false)
-          ∙ ap (λ (b : Bool). marks old k || b) (sym (some-append (λ x. eqb x k) gs (o ∷ [])));
-    }
+pub holding-none : (held : List ℕ) {seen : List Bool} → Unmarked seen → Holding held seen 0
+holding-none held u = record { room = omega arith; so-far = record { size = u .size; are = λ k l. u .none k } }
 
--- ---- giants
+module _ {held : List ℕ} {seen : List Bool} {t : ℕ} (s : Holding held seen t) where
+  pub holding-done : length held ≤ t → HeldMarked held seen
+  holding-done h = rw (take-all t held h) at (s .so-far)
 
--- the giants of the diagonals before `at` are marked
-pub record Ranging (width : ℕ) (ds : List ℕ) (old new : List Bool) (at : ℕ) : Type 0 where
-  pub walked : Walked width ds at
-  pub so-far : MarkedToo (giants 65536 width (take at ds)) old new
+  module _ (l : t < length held) where
+    more-are : (j : ℕ) → among j (take (t + 1) held) ≡ (among j (take t held) || (eqb (getD held t 0) j || false))
+    more-are j = rw (add-one t, take-suc held t 0 l) (some-append (λ x. eqb x j) (take t held) (getD held t 0 ∷ []))
 
-pub ranging-none : (width : ℕ) (ds : List ℕ) {old : List Bool} → length old ≡ 65536 → Ranging width ds old old 0
-ranging-none width ds e = record { walked = walked-none width ds; so-far = rw (giants-none 65536 width) (marked-none e) }
+    pub holding-low : getD held t 0 < 65536 → Holding held (set seen (getD held t 0) true) (t + 1)
+    holding-low h =
+        record {
+          room = omega arith;
+          so-far = record {
+            size = simp length-set (s .so-far .size);
+            are = λ j q. mark-more seen (getD held t 0) j (omega (arith, s .so-far .size)) ∙ ap (λ (b : Bool). b || (eqb (getD held t 0) j || false)) (s .so-far .are j q) ∙ sym (more-are j);
+          };
+        }
 
-pub giant-small : {width : ℕ} {ds : List ℕ} {at giant end o : ℕ} → Diagonals width ds → at < length ds → RunFrom width ds at giant end → o ≡ giant → o < 65536
-giant-small {width} {ds} {at} g l r e = omega (arith, e, r .giant-is, giant-le width (getD ds at 0), diagonal-low g l)
+    pub holding-high : 65536 ≤ getD held t 0 → Holding held seen (t + 1)
+    holding-high h =
+        record {
+          room = omega arith;
+          so-far = record {
+            size = s .so-far .size;
+            are = λ j q. s .so-far .are j q ∙ sym (more-are j ∙ ap (λ (b : Bool). among j (take t held) || (b || false)) (ne-eqb (getD held t 0) j (λ e. omega arith)) ∙ or-false (among j (take t held)));
+          };
+        }
 
-module _ {width : ℕ} {ds : List ℕ} {old new : List Bool} {at : ℕ} (s : Ranging width ds old new at) where
-  pub ranging-more : {giant end o : ℕ} → Diagonals width ds → at < length ds → RunFrom width ds at giant end → o ≡ giant → Ranging width ds old (set new o true) end
-  ranging-more {giant} g l r e = record { walked = walked-more (g .planned) (s .walked) l r; so-far = rw (e, walked-giants (g .planned) (s .walked) l r) (marked-more (s .so-far) giant (giant-small g l r refl)) }
+-- ---- a walk that ends at the first number that fails
 
-  pub ranging-done : length ds ≤ at → MarkedToo (giants 65536 width ds) old new
-  ranging-done h = rw (take-all at ds h) at (s .so-far)
+-- none of the numbers before t passes the test
+pub record Clear (p : ℕ → Bool) (xs : List ℕ) (t : ℕ) : Type 0 where
+  pub room : t ≤ length xs
+  pub so-far : some p (take t xs) ≡ false
+
+pub clear-none : (p : ℕ → Bool) (xs : List ℕ) → Clear p xs 0
+clear-none p xs = record { room = omega arith; so-far = refl }
+
+module _ {p : ℕ → Bool} {xs : List ℕ} {t : ℕ} (s : Clear p xs t) where
+  pub clear-more : t < length xs → p (getD xs t 0) ≡ false → Clear p xs (t + 1)
+  clear-more l e = record { room = omega arith; so-far = rw (add-one, take-suc xs t 0, some-append p, s .so-far, e) }
+
+  clear-found : t < length xs → p (getD xs t 0) ≡ true → true ≡ some p xs
+  clear-found l e = sym (some-here p xs t 0 l e)
+
+  clear-done : length xs ≤ t → some p xs ≡ false
+  clear-done h = sym (ap (some p) (take-all t xs h)) ∙ s .so-far
 
 -- ---- the keys where each rotation has its own
-
-by-one : (bs : List ℕ) → map (λ b. b / 1) bs ≡ bs
-by-one [] = refl
-by-one (b ∷ bs) = ap₂ _∷_ (div-one b) (by-one bs)
 
 no-zero : (xs : List ℕ) → among 0 (nonzeros xs) ≡ false
 no-zero [] = refl
@@ -96,47 +113,137 @@ nonzero-same k [] = refl
 nonzero-same k (zero ∷ xs) = rw (ne-eqb 0 (suc k) (λ e. suc-ne-zero k (sym e))) (nonzero-same k xs)
 nonzero-same k (suc x ∷ xs) = rw (ne-eqb (suc x) 0 (suc-ne-zero x)) (ap (λ (b : Bool). eqb (suc x) (suc k) || b) (nonzero-same k xs))
 
-module _ {width : ℕ} {ds : List ℕ} {seen new : List Bool} (b : BabiesMarked width 1 ds seen) (m : MarkedToo (giants 65536 width ds) seen new) where
-  turning-at : (k : ℕ) → marks (set new 0 false) k ≡ among k (keysPerRotation (babies 65536 width ds) (giants 65536 width ds))
-  turning-at zero =
-      getD-set-same new 0 false false (omega (arith, m .size))
-      ∙ sym (some-append (λ x. eqb x 0) (nonzeros (babies 65536 width ds)) (nonzeros (giants 65536 width ds)) ∙ rw (no-zero (babies 65536 width ds)) (no-zero (giants 65536 width ds)))
-  turning-at (suc k) =
-      getD-set-other new 0 (suc k) false false (suc-ne-zero k)
-      ∙ m .are (suc k)
-      ∙ ap (λ (t : Bool). t || among (suc k) (giants 65536 width ds)) (b .are (suc k) ∙ ap (among (suc k)) (by-one (babies 65536 width ds)))
-      ∙ sym (some-append (λ x. eqb x (suc k)) (nonzeros (babies 65536 width ds)) (nonzeros (giants 65536 width ds)) ∙ ap₂ _||_ (nonzero-same k (babies 65536 width ds)) (nonzero-same k (giants 65536 width ds)))
+among-nonzero : (k : ℕ) (xs : List ℕ) → not (eqb k 0) ≡ true → among k xs ≡ true → among k (nonzeros xs) ≡ true
+among-nonzero zero xs n h = absurd (true≢false (sym n))
+among-nonzero (suc k) xs n h = nonzero-same k xs ∙ h
 
-  pub turning-marked : KeysMarked (keysPerRotation (babies 65536 width ds) (giants 65536 width ds)) (set new 0 false)
-  turning-marked = record { size = simp length-set (m .size); are = turning-at }
+nonzero-among : (k : ℕ) (xs : List ℕ) → among k (nonzeros xs) ≡ true → (not (eqb k 0) ≡ true) × (among k xs ≡ true)
+nonzero-among zero xs h = absurd (true≢false (sym h ∙ no-zero xs))
+nonzero-among (suc k) xs h = (rw (ne-eqb (suc k) 0 (suc-ne-zero k)), sym (nonzero-same k xs) ∙ h)
+
+-- the baby's or the giant's key of diagonal k isn't marked
+abbrev pub turnsLacked : ℕ → List Bool → ℕ → Bool
+turnsLacked width seen k = turnLacked seen (babyOf width k) || turnLacked seen (giantOf width k)
+
+module _ {width : ℕ} {ds : List ℕ} (g : Diagonals width ds) {seen : List Bool} {held : List ℕ} (m : HeldMarked held seen) where
+  abbrev turns : List ℕ
+  turns = keysPerRotation (babies 65536 width ds) (giants 65536 width ds)
+
+  unheld : (k : ℕ) → k < 65536 → turnLacked seen k ≡ true → (not (eqb k 0) ≡ true) × (not (among k held) ≡ true)
+  unheld k l h = (first (not (eqb k 0)) _ h, ap not (sym (m .are k l)) ∙ second (not (eqb k 0)) _ h)
+
+  lacked : (k : ℕ) → k < 65536 → not (eqb k 0) ≡ true → not (among k held) ≡ true → turnLacked seen k ≡ true
+  lacked k l n h = both n (ap not (m .are k l) ∙ h)
+
+  low : (k : ℕ) → among k ds ≡ true → k < 65536
+  low k h = each-among (λ k. k < 65536) ds (g .planned .low) k h
+
+  lacked-missing : some (turnsLacked width seen) ds ≡ true → isMissing held turns ≡ true
+  unfolding isMissing
+  lacked-missing h = by (some-member (turnsLacked width seen) ds h)
+    where
+      by : (k : ℕ) × ((among k ds ≡ true) × (turnsLacked width seen k ≡ true)) → some (λ k. not (among k held)) turns ≡ true
+      by (k, (a, e)) =
+          ⊎-elim
+          (λ u. let r = unheld (babyOf width k) (omega (arith, baby-le width k, low k a)) u in among-some (λ k. not (among k held)) turns (babyOf width k) (among-left (babyOf width k) (nonzeros (babies 65536 width ds)) (nonzeros (giants 65536 width ds)) (among-nonzero (babyOf width k) (babies 65536 width ds) (r .0) (babies-have (g .planned) k a))) (r .1))
+          (λ u. let r = unheld (giantOf width k) (omega (arith, giant-le width k, low k a)) u in among-some (λ k. not (among k held)) turns (giantOf width k) (among-right (giantOf width k) (nonzeros (babies 65536 width ds)) (nonzeros (giants 65536 width ds)) (among-nonzero (giantOf width k) (giants 65536 width ds) (r .0) (giants-have (g .planned) k a))) (r .1))
+          (one-of (turnLacked seen (babyOf width k)) (turnLacked seen (giantOf width k)) e)
+
+  missing-lacked : isMissing held turns ≡ true → some (turnsLacked width seen) ds ≡ true
+  unfolding isMissing babies giants
+  missing-lacked h = by (some-member (λ k. not (among k held)) turns h)
+    where
+      by : (k : ℕ) × ((among k turns ≡ true) × (not (among k held) ≡ true)) → some (turnsLacked width seen) ds ≡ true
+      by (k, (a, u)) = ⊎-elim from-baby from-giant (among-split k (nonzeros (babies 65536 width ds)) (nonzeros (giants 65536 width ds)) a)
+        where
+          from-baby : among k (nonzeros (babies 65536 width ds)) ≡ true → some (turnsLacked width seen) ds ≡ true
+          from-baby a =
+              let n = nonzero-among k (babies 65536 width ds) a in
+              let b = below-among k (λ b. eqb b 0 || some (λ j. eqb (babyOf width j) b) ds) 65536 (n .1) in
+              let t = some-member (λ j. eqb (babyOf width j) k) ds (⊎-elim (λ z. absurd (true≢false (sym (n .0) ∙ ap not z))) (λ s. s) (one-of (eqb k 0) _ (b .1))) in
+              let e : babyOf width (t .0) ≡ k = eqb-true (babyOf width (t .0)) k (t .1 .1) in
+              among-some (turnsLacked width seen) ds (t .0) (t .1 .0) (left {a = turnLacked seen (babyOf width (t .0))} _ (rw e (lacked k (b .0) (n .0) u)))
+
+          from-giant : among k (nonzeros (giants 65536 width ds)) ≡ true → some (turnsLacked width seen) ds ≡ true
+          from-giant a =
+              let n = nonzero-among k (giants 65536 width ds) a in
+              let b = below-among k (λ g. some (λ j. eqb (giantOf width j) g) ds) 65536 (n .1) in
+              let t = some-member (λ j. eqb (giantOf width j) k) ds (b .1) in
+              let e : giantOf width (t .0) ≡ k = eqb-true (giantOf width (t .0)) k (t .1 .1) in
+              among-some (turnsLacked width seen) ds (t .0) (t .1 .0) (right (turnLacked seen (babyOf width (t .0))) (rw e (lacked k (b .0) (n .0) u)))
+
+pub turns-lacking : {width : ℕ} {ds : List ℕ} {seen : List Bool} {r : Bool} → Diagonals width ds → r ≡ some (turnsLacked width seen) ds → Lacking (keysPerRotation (babies 65536 width ds) (giants 65536 width ds)) seen r
+turns-lacking g e = record { are = λ held m. e ∙ agree (lacked-missing g m) (missing-lacked g m) }
+
+module _ {width : ℕ} {ds : List ℕ} {t : ℕ} (g : Diagonals width ds) (l : t < length ds) where
+  pub baby-small : getD ds t 0 % width < 65536
+  baby-small = let p = g .planned .positive in omega (arith, mod-lt (getD ds t 0) p, g .narrow)
+
+  pub rest-small : getD ds t 0 - getD ds t 0 % width < 65536
+  rest-small = omega (arith, diagonal-low g l)
+
+-- the keys of the first t diagonals are marked
+pub record TurnsHeld (width : ℕ) (ds : List ℕ) (seen : List Bool) (t : ℕ) : Type 0 where
+  pub clear : Clear (turnsLacked width seen) ds t
+
+pub turns-held : (width : ℕ) (ds : List ℕ) (seen : List Bool) → TurnsHeld width ds seen 0
+turns-held width ds seen = record { clear = clear-none (turnsLacked width seen) ds }
+
+module _ {width : ℕ} {ds : List ℕ} {seen : List Bool} {t : ℕ} (s : TurnsHeld width ds seen t) (g : Diagonals width ds) where
+  module _ (l : t < length ds) {a : Bool} (e : a ≡ turnLacked seen (getD ds t 0 % width)) where
+    pub turn-baby : a ≡ true → Lacking (keysPerRotation (babies 65536 width ds) (giants 65536 width ds)) seen true
+    unfolding babyOf
+    turn-baby h = turns-lacking g (clear-found (s .clear) l (left {a = turnLacked seen (getD ds t 0 % width)} _ (sym e ∙ h)))
+
+    module _ {b : Bool} (f : b ≡ turnLacked seen (getD ds t 0 - getD ds t 0 % width)) where
+      pub turn-giant : b ≡ true → Lacking (keysPerRotation (babies 65536 width ds) (giants 65536 width ds)) seen true
+      unfolding babyOf giantOf
+      turn-giant h = turns-lacking g (clear-found (s .clear) l (right (turnLacked seen (getD ds t 0 % width)) (sym f ∙ h)))
+
+      pub turn-more : a ≡ false → b ≡ false → TurnsHeld width ds seen (t + 1)
+      unfolding babyOf giantOf
+      turn-more h k = record { clear = clear-more (s .clear) l (rw (← e, ← f, h, k)) }
+
+  pub turn-none : length ds ≤ t → Lacking (keysPerRotation (babies 65536 width ds) (giants 65536 width ds)) seen false
+  turn-none h = turns-lacking g (sym (clear-done (s .clear) h))
 
 -- ---- the keys of a list
 
+unmarked-missing : (keys : List ℕ) {seen : List Bool} {held : List ℕ} → Each (λ k. k < 65536) keys → HeldMarked held seen → some (λ k. not (marks seen k)) keys ≡ some (λ k. not (among k held)) keys
+unmarked-missing [] l m = refl
+unmarked-missing (k ∷ keys) l m = rw (m .are k (l .0), unmarked-missing keys (l .1) m)
+
+pub listed-lacking : {keys : List ℕ} {seen : List Bool} {r : Bool} → Each (λ k. k < 65536) keys → r ≡ some (λ k. not (marks seen k)) keys → Lacking keys seen r
+unfolding isMissing
+listed-lacking {keys} l e = record { are = λ held m. e ∙ unmarked-missing keys l m }
+
 -- the first t numbers of the list are marked
-pub record Listing (count : ℕ) (list : List ℕ) (old new : List Bool) (t : ℕ) : Type 0 where
-  pub room : t ≤ count
-  pub so-far : MarkedToo (take t list) old new
+pub record ListHeld (count : ℕ) (list : List ℕ) (seen : List Bool) (t : ℕ) : Type 0 where
+  pub clear : Clear (λ k. not (marks seen k)) (take count list) t
 
-pub listing-none : (count : ℕ) (list : List ℕ) {old : List Bool} → Unmarked old → Listing count list old old 0
-listing-none count list u = record { room = omega arith; so-far = marked-none (u .size) }
+pub list-held : (count : ℕ) (list : List ℕ) (seen : List Bool) → ListHeld count list seen 0
+list-held count list seen = record { clear = clear-none (λ k. not (marks seen k)) (take count list) }
 
-pub listed-low : {count : ℕ} {list : List ℕ} → Listed count list → (t : ℕ) → t < count → getD list t 0 < 65536
-listed-low {count} {list} l t h =
-    let e : getD (take count list) t 0 ≡ getD list t 0 = getD-take count list t 0 h in
-    omega (arith, e, each-at (λ k. k < 65536) (take count list) 0 (l .low) t (omega (arith, length-take-le count list (l .room))))
+module _ {count : ℕ} {list : List ℕ} {t : ℕ} (i : Listed count list) (h : t < count) where
+  taken-at : getD (take count list) t 0 ≡ getD list t 0
+  taken-at = getD-take count list t 0 h
 
-module _ {count : ℕ} {list : List ℕ} {old new : List Bool} {t : ℕ} (s : Listing count list old new t) where
-  pub listing-more : {o : ℕ} → Listed count list → t < count → o ≡ getD list t 0 → Listing count list old (set new o true) (t + 1)
-  listing-more l h e =
-      record {
-        room = omega arith;
-        so-far = rw (e, add-one t, take-suc list t 0 (omega (arith, l .room))) (marked-more (s .so-far) (getD list t 0) (listed-low l t h));
-      }
+  taken-in : t < length (take count list)
+  taken-in = omega (arith, length-take-le count list (i .room))
 
-  pub listing-done : Unmarked old → count ≤ t → KeysMarked (take count list) new
-  listing-done u h =
-      let q : t ≡ count = omega (arith, s .room) in
-      record { size = s .so-far .size; are = λ k. s .so-far .are k ∙ rw (u .none k, q) }
+  pub listed-low : {o : ℕ} → o ≡ getD list t 0 → o < 65536
+  listed-low e = omega (arith, e, taken-at, each-at (λ k. k < 65536) (take count list) 0 (i .low) t taken-in)
+
+module _ {count : ℕ} {list : List ℕ} {seen : List Bool} {t : ℕ} (s : ListHeld count list seen t) (i : Listed count list) where
+  module _ (h : t < count) {o : ℕ} (e : o ≡ getD list t 0) {b : Bool} (m : b ≡ not (marks seen o)) where
+    pub listed-found : b ≡ true → Lacking (take count list) seen true
+    listed-found q = listed-lacking (i .low) (clear-found (s .clear) (taken-in i h) (rw (taken-at i h, ← e) (sym m ∙ q)))
+
+    pub listed-more : b ≡ false → ListHeld count list seen (t + 1)
+    listed-more q = record { clear = clear-more (s .clear) (taken-in i h) (rw (taken-at i h, ← e) (sym m ∙ q)) }
+
+  pub listed-none : count ≤ t → Lacking (take count list) seen false
+  listed-none h = listed-lacking (i .low) (sym (clear-done (s .clear) (omega (arith, length-take-le count list (i .room)))))
 
 -- ---- the keys with powers of two
 
@@ -169,112 +276,22 @@ module _ {slots width : ℕ} {ds : List ℕ} (z : Sizable slots width ds) {old n
           low = rw list-is (each-then (λ k h. omega (arith, z .slots-in .high)) (planKeys slots (BsgsPowersOfTwo width) ds) (keys-low slots (BsgsPowersOfTwo width) ds (z .slots-in .low)));
         }
 
-    pub powers-marked : {seen : List Bool} → KeysMarked (take count new) seen → KeysMarked (planKeys slots (BsgsPowersOfTwo width) ds) seen
-    powers-marked m = rw list-is at m
+    pub powers-lacking : {seen : List Bool} {r : Bool} → Lacking (take count new) seen r → Lacking (planKeys slots (BsgsPowersOfTwo width) ds) seen r
+    powers-lacking m = rw list-is at m
 
 -- ---- by the strategy
 
-module _ (slots : ℕ) (ds : List ℕ) {s : LinearTransformationStrategy} {seen : List Bool} where
-  pub marked-width : {w : ℕ} → s ≡ Bsgs w → Sizable slots w ds → KeysMarked (keysPerRotation (babies 65536 w ds) (giants 65536 w ds)) seen → KeysMarked (planKeys slots s ds) seen
+module _ (slots : ℕ) (ds : List ℕ) {s : LinearTransformationStrategy} {seen : List Bool} {r : Bool} where
+  pub lacks-width : {w : ℕ} → s ≡ Bsgs w → Sizable slots w ds → Lacking (keysPerRotation (babies 65536 w ds) (giants 65536 w ds)) seen r → Lacking (planKeys slots s ds) seen r
   unfolding planKeys
-  marked-width e z m = rw (e, ← babies-bound (z .planned) 65536 (z .slots-in .high) (z .slots-in .low), ← giants-bound (z .planned) 65536 (z .slots-in .high)) m
+  lacks-width e z m = rw (e, ← babies-bound (z .planned) 65536 (z .slots-in .high) (z .slots-in .low), ← giants-bound (z .planned) 65536 (z .slots-in .high)) m
 
-  pub marked-powers : {w : ℕ} → s ≡ BsgsPowersOfTwo w → KeysMarked (planKeys slots (BsgsPowersOfTwo w) ds) seen → KeysMarked (planKeys slots s ds) seen
-  marked-powers e m = rw e m
+  pub lacks-powers : {w : ℕ} → s ≡ BsgsPowersOfTwo w → Lacking (planKeys slots (BsgsPowersOfTwo w) ds) seen r → Lacking (planKeys slots s ds) seen r
+  lacks-powers e m = rw e m
 
-  pub marked-direct : s ≡ Direct → Sizable slots 1 ds → KeysMarked (keysPerRotation (babies 65536 1 ds) (giants 65536 1 ds)) seen → KeysMarked (planKeys slots s ds) seen
+  pub lacks-direct : s ≡ Direct → Sizable slots 1 ds → Lacking (keysPerRotation (babies 65536 1 ds) (giants 65536 1 ds)) seen r → Lacking (planKeys slots s ds) seen r
   unfolding planKeys
-  marked-direct e z m = rw (e, ← babies-bound (z .planned) 65536 (z .slots-in .high) (z .slots-in .low), ← giants-bound (z .planned) 65536 (z .slots-in .high)) m
-
--- ---- the held list
-
-no-both : (b : Bool) → (b && false) ≡ false
-no-both true = refl
-no-both false = refl
-
--- the first t held numbers are not marked
-pub record Holding (held : List ℕ) (old new : List Bool) (t : ℕ) : Type 0 where
-  pub room : t ≤ length held
-  pub before : length old ≡ 65536
-  pub so-far : Unheld (take t held) old new
-
-pub holding-none : (held : List ℕ) {old : List Bool} → length old ≡ 65536 → Holding held old old 0
-holding-none held {old} e = record { room = omega arith; before = e; so-far = record { size = e; are = λ k. by (marks old k) } }
-  where
-    by : (b : Bool) → b ≡ (b && true)
-    by true = refl
-    by false = refl
-
-module _ {held : List ℕ} {old new : List Bool} {t : ℕ} (s : Holding held old new t) where
-  pub holding-done : length held ≤ t → Unheld held old new
-  holding-done h = rw (take-all t held h) at (s .so-far)
-
-  module _ (l : t < length held) where
-    more-are : (j : ℕ) → among j (take (t + 1) held) ≡ (among j (take t held) || (eqb (getD held t 0) j || false))
-    more-are j = rw (add-one t, take-suc held t 0 l) (some-append (λ x. eqb x j) (take t held) (getD held t 0 ∷ []))
-
-    -- another number
-    other : (j : ℕ) → (getD held t 0 ≡ j → ⊥) → marks new j ≡ (marks old j && not (among j (take (t + 1) held)))
-    other j n =
-        let e : among j (take (t + 1) held) ≡ among j (take t held) = more-are j ∙ ap (λ (b : Bool). among j (take t held) || (b || false)) (ne-eqb (getD held t 0) j n) ∙ or-false (among j (take t held)) in
-        rw e (s .so-far .are j)
-
-    -- the number itself
-    same : (j : ℕ) → getD held t 0 ≡ j → (marks old j && not (among j (take (t + 1) held))) ≡ false
-    same j e = rw (more-are j, eq-eqb (getD held t 0) j e, or-true (among j (take t held))) (no-both (marks old j))
-
-    pub holding-low : getD held t 0 < 65536 → Holding held old (set new (getD held t 0) false) (t + 1)
-    holding-low h = record { room = omega arith; before = s .before; so-far = record { size = simp length-set (s .so-far .size); are = λ j. by j (ℕ-discrete (getD held t 0) j) } }
-      where
-        by : (j : ℕ) → Dec (getD held t 0 ≡ j) → marks (set new (getD held t 0) false) j ≡ (marks old j && not (among j (take (t + 1) held)))
-        by j (yes e) = rw (← e) (getD-set-same new (getD held t 0) false false (omega (arith, s .so-far .size))) ∙ sym (same j e)
-        by j (no n) = getD-set-other new (getD held t 0) j false false (λ q. n (sym q)) ∙ other j n
-
-    pub holding-high : 65536 ≤ getD held t 0 → Holding held old new (t + 1)
-    holding-high h = record { room = omega arith; before = s .before; so-far = record { size = s .so-far .size; are = λ j. by j (ℕ-discrete (getD held t 0) j) } }
-      where
-        by : (j : ℕ) → Dec (getD held t 0 ≡ j) → marks new j ≡ (marks old j && not (among j (take (t + 1) held)))
-        by j (yes e) = List·getD-eq-default new false (omega (arith, s .so-far .size)) ∙ sym (same j e)
-        by j (no n) = other j n
-
--- ---- whether a mark is left
-
-some-below : (xs : List ℕ) → (length xs ≡ 0 → ⊥) → (k : ℕ) × (among k xs ≡ true)
-some-below [] n = absurd (n refl)
-some-below (x ∷ xs) n = (x, among-head x xs)
-
-none-there : (k : ℕ) (xs : List ℕ) → among k xs ≡ true → length xs ≡ 0 → ⊥
-none-there k [] h e = true≢false (sym h)
-none-there k (x ∷ xs) h e = suc-ne-zero (length xs) e
-
-module _ {keys held : List ℕ} {old new : List Bool} (low : Each (λ k. k < 65536) keys) (m : KeysMarked keys old) (u : Unheld held old new) {count : ℕ} (c : count ≡ length (below (marks new) 65536)) where
-  left-at : (k : ℕ) → marks new k ≡ (among k keys && not (among k held))
-  left-at k = u .are k ∙ ap (λ (b : Bool). b && not (among k held)) (m .are k)
-
-  missing-left : isMissing held keys ≡ true → count ≡ 0 → ⊥
-  unfolding isMissing
-  missing-left h e =
-      let r = some-member (λ k. not (among k held)) keys h in
-      none-there (r .0) (below (marks new) 65536)
-      (among-below (r .0) (marks new) 65536 (each-among (λ k. k < 65536) keys low (r .0) (r .1 .0)) (left-at (r .0) ∙ both (r .1 .0) (r .1 .1)))
-      (sym c ∙ e)
-
-  left-missing : (count ≡ 0 → ⊥) → isMissing held keys ≡ true
-  unfolding isMissing
-  left-missing n =
-      let r = some-below (below (marks new) 65536) (λ e. n (c ∙ e)) in
-      let q : (among (r .0) keys && not (among (r .0) held)) ≡ true = sym (left-at (r .0)) ∙ below-among (r .0) (marks new) 65536 (r .1) .1 in
-      among-some (λ k. not (among k held)) keys (r .0) (first (among (r .0) keys) _ q) (second (among (r .0) keys) _ q)
-
-  pub missing-is : not (eqb count 0) ≡ isMissing held keys
-  missing-is =
-      agree
-      (λ h. left-missing (eqb-false count 0 (not-true (eqb count 0) h)))
-      (λ h. rw (ne-eqb count 0 (missing-left h)))
-
--- the keys of an accepted plan are in the table
-pub keys-small : {slots : ℕ} {s : LinearTransformationStrategy} {ds : List ℕ} → Accepted slots s ds → Each (λ k. k < 65536) (planKeys slots s ds)
-keys-small {slots} {s} {ds} a = each-then (λ k h. omega (arith, a .slots-in .high)) (planKeys slots s ds) (keys-low slots s ds (a .slots-in .low))
+  lacks-direct e z m = rw (e, ← babies-bound (z .planned) 65536 (z .slots-in .high) (z .slots-in .low), ← giants-bound (z .planned) 65536 (z .slots-in .high)) m
 
 -- ---- the numbers of a plan
 

@@ -1,6 +1,6 @@
 // Plans of stored maps: their offsets rise and are below slots, so nothing is sorted and nothing copied.
 ghost use mathlib.Core.Path.{_≡_};
-ghost use Prim.Native.Nat.{_≤_};
+ghost use Prim.Native.Nat.{_≤_, _<_};
 ghost use lib.ListN.{length, take};
 ghost use Rattle.ring.specs.Marks.{Unmarked};
 ghost use Rattle.linear_transformation.specs.declared.LinearTransformationStrategy.the-variants.{BsgsPowersOfTwo};
@@ -9,7 +9,7 @@ ghost use Rattle.linear_transformation.specs.Schedules.{keysPerRotation,
 ghost use Rattle.linear_transformation.specs.Stored.{offsetsRise, isMissing, stepOf, needsRefusal, planNeeds, StoredPlanWritten, storedTreeRoom, StoredTreeLeft, StoredTreeWritten};
 ghost use Rattle.linear_transformation.specs.Steps.Plans.{Diagonals};
 ghost use Rattle.linear_transformation.specs.Steps.Keys.{Sizable, Accepted};
-ghost use Rattle.linear_transformation.specs.Steps.Stored.{StoredJudged, KeysMarked, MarkedToo, Unheld, Listed, PairsAre};
+ghost use Rattle.linear_transformation.specs.Steps.Stored.{StoredJudged, HeldMarked, turnLacked, Lacking, Listed, PairsAre};
 ghost use Rattle.ring.specs.Refusals.{firstOf};
 use crate::LinearTransformationStrategy;
 use crate::heap::tree_size;
@@ -22,9 +22,7 @@ use crate::keys::power_keys;
 use crate::plan::PlanAnswer;
 use crate::plan::baby_step_of;
 use crate::plan::count_giants;
-use crate::plan::mark_babies;
 use crate::plan::plan_sorted;
-use crate::plan::run_from;
 use crate::plan::width_of;
 use crate::rotations::TreeAnswer;
 
@@ -159,86 +157,95 @@ pub fn stored_tree(
     tree_sorted(offsets, slots as u32, strategy, levels, records)
 }
 
-// Marks the plan's giants.
-fn mark_giants(ds: &[u32], width: u32, seen: &mut [bool; 65536])
-    requires { ⌜ Diagonals width (now ds) ⌝ }
-    requires { ⌜ length (now seen) ≡ 65536 ⌝ }
-    ensures { λ _. ⌜ MarkedToo (giants 65536 width (now (ds .entry))) (now (seen .entry)) (now (seen .exit)) ⌝ }
-{
-    let mut at = 0;
-    while at < ds.len() {
-        let run = run_from(ds, width, at);
-        seen[ring::wide(run.giant)] = true;
-        at = run.end;
-    }
-}
-
-// Marks the keys where each rotation has its own: rotation 0 asks for none.
-fn mark_turning(ds: &[u32], width: u32, seen: &mut [bool; 65536])
-    requires { ⌜ Diagonals width (now ds) ⌝ }
+// Marks the held numbers. They may be any: from 65536 on none is a key.
+fn mark_held(held: &[u64], seen: &mut [bool; 65536])
     requires { ⌜ Unmarked (now seen) ⌝ }
-    ensures { λ _. ⌜ KeysMarked (keysPerRotation (babies 65536 width (now (ds .entry))) (giants 65536 width (now (ds .entry)))) (now (seen .exit)) ⌝ }
-{
-    mark_babies(ds, width, 1, seen);
-    mark_giants(ds, width, seen);
-    seen[0] = false;
-}
-
-// Marks the first `count` numbers of a list.
-fn mark_listed(list: &[u32; 32], count: usize, seen: &mut [bool; 65536])
-    requires { ⌜ Listed count (now list) ⌝ }
-    requires { ⌜ Unmarked (now seen) ⌝ }
-    ensures { λ _. ⌜ KeysMarked (take count (now (list .entry))) (now (seen .exit)) ⌝ }
-{
-    for t in 0..count {
-        seen[ring::wide(list[t])] = true;
-    }
-}
-
-// Marks the keys with powers of two. There are at most 16 passes and 16 levels, so they are never
-// refused for want of room.
-fn mark_powers(ds: &[u32], slots: u32, width: u32, seen: &mut [bool; 65536])
-    requires { ⌜ Sizable slots width (now ds) ⌝ }
-    requires { ⌜ Unmarked (now seen) ⌝ }
-    ensures { λ _. ⌜ KeysMarked (planKeys slots (BsgsPowersOfTwo width) (now (ds .entry))) (now (seen .exit)) ⌝ }
-{
-    let mut list = [0u32; 32];
-    let ring::Answer::Is(count) = power_keys(ds, slots, width, &mut list) else {
-        return;
-    };
-    mark_listed(&list, count, seen);
-}
-
-// Marks the plan's keys.
-fn mark_keys(
-    ds: &[u32],
-    slots: u32,
-    strategy: LinearTransformationStrategy,
-    seen: &mut [bool; 65536],
-)
-    requires { ⌜ Accepted slots strategy (now ds) ⌝ }
-    requires { ⌜ Unmarked (now seen) ⌝ }
-    ensures { λ _. ⌜ KeysMarked (planKeys slots strategy (now (ds .entry))) (now (seen .exit)) ⌝ }
-{
-    match strategy {
-        LinearTransformationStrategy::Bsgs { giant_step: g } => mark_turning(ds, g as u32, seen),
-        LinearTransformationStrategy::BsgsPowersOfTwo { giant_step: g } => {
-            mark_powers(ds, slots, g as u32, seen)
-        }
-        LinearTransformationStrategy::Direct => mark_turning(ds, 1, seen),
-    }
-}
-
-// Takes the marks from the held numbers. Held numbers may be any: from 65536 on none is a key.
-fn unmark(held: &[u64], seen: &mut [bool; 65536])
-    requires { ⌜ length (now seen) ≡ 65536 ⌝ }
-    ensures { λ _. ⌜ Unheld (now (held .entry)) (now (seen .entry)) (now (seen .exit)) ⌝ }
+    ensures { λ _. ⌜ HeldMarked (now (held .entry)) (now (seen .exit)) ⌝ }
 {
     for t in 0..held.len() {
         let k = held[t];
         if k < 65536 {
-            seen[k as usize] = false;
+            seen[k as usize] = true;
         }
+    }
+}
+
+// Whether the rotation has no marked key; rotation 0 asks for none.
+fn is_lacked(k: u32, seen: &[bool; 65536]) -> bool
+    requires { ⌜ k < 65536 ⌝ }
+    requires { ⌜ length (now seen) ≡ 65536 ⌝ }
+    ensures { λ r. ⌜ r ≡ turnLacked (now (seen .entry)) k ⌝ }
+{
+    if k == 0 {
+        return false;
+    }
+    !seen[ring::wide(k)]
+}
+
+// Whether a key is not marked, where each rotation has its own.
+fn lacks_turn(ds: &[u32], width: u32, seen: &[bool; 65536]) -> bool
+    requires { ⌜ Diagonals width (now ds) ⌝ }
+    requires { ⌜ length (now seen) ≡ 65536 ⌝ }
+    ensures { λ r. ⌜ Lacking (keysPerRotation (babies 65536 width (now (ds .entry))) (giants 65536 width (now (ds .entry)))) (now (seen .entry)) r ⌝ }
+{
+    for t in 0..ds.len() {
+        let k = ds[t];
+        let baby = k % width;
+        if is_lacked(baby, seen) {
+            return true;
+        }
+        if is_lacked(k - baby, seen) {
+            return true;
+        }
+    }
+    false
+}
+
+// Whether one of the first `count` numbers of a list is not marked.
+fn lacks_listed(list: &[u32; 32], count: usize, seen: &[bool; 65536]) -> bool
+    requires { ⌜ Listed count (now list) ⌝ }
+    requires { ⌜ length (now seen) ≡ 65536 ⌝ }
+    ensures { λ r. ⌜ Lacking (take count (now (list .entry))) (now (seen .entry)) r ⌝ }
+{
+    for t in 0..count {
+        if !seen[ring::wide(list[t])] {
+            return true;
+        }
+    }
+    false
+}
+
+// Whether a key with powers of two is not marked. There are at most 16 passes and 16 levels, so they
+// are never refused for want of room.
+fn lacks_power(ds: &[u32], slots: u32, width: u32, seen: &[bool; 65536]) -> bool
+    requires { ⌜ Sizable slots width (now ds) ⌝ }
+    requires { ⌜ length (now seen) ≡ 65536 ⌝ }
+    ensures { λ r. ⌜ Lacking (planKeys slots (BsgsPowersOfTwo width) (now (ds .entry))) (now (seen .entry)) r ⌝ }
+{
+    let mut list = [0u32; 32];
+    let ring::Answer::Is(count) = power_keys(ds, slots, width, &mut list) else {
+        return true;
+    };
+    lacks_listed(&list, count, seen)
+}
+
+// Whether a key of the plan is not marked.
+fn lacks_key(
+    ds: &[u32],
+    slots: u32,
+    strategy: LinearTransformationStrategy,
+    seen: &[bool; 65536],
+) -> bool
+    requires { ⌜ Accepted slots strategy (now ds) ⌝ }
+    requires { ⌜ length (now seen) ≡ 65536 ⌝ }
+    ensures { λ r. ⌜ Lacking (planKeys slots strategy (now (ds .entry))) (now (seen .entry)) r ⌝ }
+{
+    match strategy {
+        LinearTransformationStrategy::Bsgs { giant_step: g } => lacks_turn(ds, g as u32, seen),
+        LinearTransformationStrategy::BsgsPowersOfTwo { giant_step: g } => {
+            lacks_power(ds, slots, g as u32, seen)
+        }
+        LinearTransformationStrategy::Direct => lacks_turn(ds, 1, seen),
     }
 }
 
@@ -247,10 +254,9 @@ fn is_missing(ds: &[u32], slots: u32, strategy: LinearTransformationStrategy, he
     requires { ⌜ Accepted slots strategy (now ds) ⌝ }
     ensures { λ r. ⌜ r ≡ isMissing (now (held .entry)) (planKeys slots strategy (now (ds .entry))) ⌝ }
 {
-    let mut needed = [false; 65536];
-    mark_keys(ds, slots, strategy, &mut needed);
-    unmark(held, &mut needed);
-    ring::count_marks(&needed, 65536) != 0
+    let mut seen = [false; 65536];
+    mark_held(held, &mut seen);
+    lacks_key(ds, slots, strategy, &seen)
 }
 
 // The pairs, from the giant switches: with powers of two a switch is made for each pair.

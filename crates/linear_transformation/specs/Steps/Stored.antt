@@ -2,37 +2,36 @@
 -- Assumes nothing.
 use Prim.Native.Nat.{ℕ, _≤_, _<_}
 use mathlib.Core.Path.{_≡_}
-use mathlib.Core.Bool.{Bool, not, _&&_, _||_}
+use mathlib.Core.Bool.{Bool, not, _&&_}
 use mathlib.Core.List.{List}
+use lib.Dec.{eqb}
 use lib.ListN.{length, take}
 use Rattle.ring.specs.Lists.{Each, among}
 use Rattle.ring.specs.Marks.{marks}
 use Rattle.ring.specs.Refusals.{firstOf}
 use Rattle.linear_transformation.specs.declared.LinearTransformationStrategy.{LinearTransformationStrategy}
 use Rattle.linear_transformation.specs.Schedules.{giantSwitches}
-use Rattle.linear_transformation.specs.Stored.{storedRefusals, pairCount}
+use Rattle.linear_transformation.specs.Stored.{storedRefusals, isMissing, pairCount}
 use Rattle.linear_transformation.specs.Steps.Keys.{Accepted}
 
 pub record StoredJudged (slots : ℕ) (strategy : LinearTransformationStrategy) (ks : List ℕ) (r : ℕ) : Type 0 where
   pub answer : r ≡ firstOf (storedRefusals slots strategy ks)
   pub accepted : r ≡ 0 → Accepted slots strategy ks
 
--- ---- the table of keys
+-- ---- the table of held keys
 
--- the keys are marked
-pub record KeysMarked (keys : List ℕ) (seen : List Bool) : Type 0 where
+-- the held numbers that may be keys are marked
+pub record HeldMarked (held : List ℕ) (seen : List Bool) : Type 0 where
   pub size : length seen ≡ 65536
-  pub are : (k : ℕ) → marks seen k ≡ among k keys
+  pub are : (k : ℕ) → k < 65536 → marks seen k ≡ among k held
 
--- the numbers gs are marked too
-pub record MarkedToo (gs : List ℕ) (old new : List Bool) : Type 0 where
-  pub size : length new ≡ 65536
-  pub are : (k : ℕ) → marks new k ≡ (marks old k || among k gs)
+-- a rotation with a key of its own isn't marked; rotation 0 has none
+abbrev pub turnLacked : List Bool → ℕ → Bool
+turnLacked seen k = not (eqb k 0) && not (marks seen k)
 
--- the held ones are no longer marked
-pub record Unheld (held : List ℕ) (old new : List Bool) : Type 0 where
-  pub size : length new ≡ 65536
-  pub are : (k : ℕ) → marks new k ≡ (marks old k && not (among k held))
+-- the answer whether a key isn't held, from the marks of any held list
+pub record Lacking (keys : List ℕ) (seen : List Bool) (r : Bool) : Type 0 where
+  pub are : (held : List ℕ) → HeldMarked held seen → r ≡ isMissing held keys
 
 -- the first count words of the list are keys
 pub record Listed (count : ℕ) (list : List ℕ) : Type 0 where

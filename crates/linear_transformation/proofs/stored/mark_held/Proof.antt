@@ -1,14 +1,14 @@
--- `linear_transformation::stored::unmark` meets its contract. Assumes nothing.
+-- `linear_transformation::stored::mark_held` meets its contract. Assumes nothing.
 use borrow.Author.Needs.{needs}
 use Prim.Native.Nat.{_-_}
 use lib.ListN.{length}
 use Rattle.linear_transformation.proofs.Missings.{Holding, holding-none, holding-low, holding-high, holding-done}
 use mathlib.Core.Logic.{⊎-elim}
-use Rattle.linear_transformation.proofs.stored.unmark.Statement.{statement}
-use Rattle.linear_transformation.proofs.stored.unmark.Tie as tie
+use Rattle.linear_transformation.proofs.stored.mark_held.Statement.{statement}
+use Rattle.linear_transformation.proofs.stored.mark_held.Tie as tie
 
 abbrev Inv-loop : tie.InvT-loop
-Inv-loop held seen₀ t₀ t-end seen t = Holding held seen₀ seen t
+Inv-loop held seen₀ t₀ t-end seen t = Holding held seen t
 
 abbrev μ-loop : tie.MeasureT-loop
 μ-loop held seen₀ t₀ t-end seen t = length held - t
@@ -37,8 +37,8 @@ loop-again c = ⊎-elim (λ w. rw (w .1) (search (holding-low, needs))) (λ w. r
 returns : tie.Need-returns Inv-loop μ-loop
 returns c = search (holding-done, needs)
 
-pub unmark-spec : {M : Type 1} → statement M
-unmark-spec =
+pub mark-held-spec : {M : Type 1} → statement M
+mark-held-spec =
     tie.close
     (tie.spec
     Inv-loop
