@@ -4,8 +4,8 @@
  * lent word as it was, and its value is 0. A slice is a pointer and a count; of a count of 0 the pointer is not read. Lent
  * outputs overlap nothing else that is lent to the same call.
  *
- * Stack: a call needs up to 578 KiB (the best width; the plan's keys 514, the builders of maps 320, a run 4), measured on
- * x86-64. A thread of 1 MiB is enough for each.
+ * Stack: a call needs up to 578 KiB (the best width; the keyed run 577, the plan's keys 514, the builders of maps 320, the
+ * plain run 4), measured on x86-64. A thread of 1 MiB is enough for each.
  */
 #ifndef SIBUKYARAN_H
 #define SIBUKYARAN_H

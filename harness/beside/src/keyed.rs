@@ -12,7 +12,7 @@ use crate::bench::{Bench, keep};
 use crate::diagonals::{Stored, any_map, any_period, damaged, map_words, right_map_refusal, rust_map, wrapped};
 use crate::keys::tree_words;
 use crate::machine::{self, Plan};
-use crate::ours::{self, Buffers, Job, KeyedNumbers};
+use crate::ours::{self, Buffers, Job, KeyedNumbers, Reach};
 use crate::plans::{How, accepted, any_list, any_width, plan_keys, plan_switches, plan_words, subsets, wide};
 use crate::random::Random;
 use crate::ring::{MOST, word};
@@ -573,7 +573,31 @@ fn sigma_sized(random: &mut Random, length: usize) -> Stored {
     map
 }
 
-/// Beside the Rust's `evaluate`; beside our plain run; and, stopped at n = 0, beside our map test, plan and key rotations.
+/// Whether a key is not held, by a table of the held ones.
+fn is_missing(keys: &[u32], held: &[u64]) -> bool {
+    let mut marks = vec![false; MOST];
+    for &k in held {
+        marks[k as usize] = true;
+    }
+    keys.iter().any(|&k| !marks[k as usize])
+}
+
+/// What a run stopped before its first switch has to do, each by a call of its own: map test, plan and pair records, key
+/// test. Gives whether a key is missing.
+fn prepare(run: &Run, indexes: &[i64], held: &[u64], buffers: &mut Buffers, keys: &mut [u32]) -> bool {
+    assert_eq!(ours::map_refusal(keep(run.map.lent())), 0);
+    let plan = ours::index(keep(indexes), MOST, run.how, &mut buffers.plan);
+    if run.how.0 == 1 {
+        let giants = &buffers.plan[plan.babies as usize..][..plan.giants as usize];
+        let giants: Vec<i64> = giants.iter().map(|&g| g.into()).collect();
+        let (mut leaves, mut levels) = ([0; 16], [0; 32]);
+        ours::giant_tree(Reach::powers(1, 32, MOST), &giants, &mut leaves, &mut levels, &mut buffers.records);
+    }
+    let count = ours::plan_keys(keep(indexes), MOST, run.how, keys).value;
+    is_missing(&keys[..count], keep(held))
+}
+
+/// Beside the Rust's `evaluate`; beside our plain run; and, stopped at n = 0, beside our map test, plan and key test.
 pub fn bench(bench: &mut Bench) {
     let mut random = Random::new(20);
     for length in [MOST, 256] {
@@ -605,16 +629,15 @@ pub fn bench(bench: &mut Bench) {
                 || ours::evaluate(keep(run.map.lent()), &run.input, strategy, &mut plain),
             );
             assert_eq!(buffers.out, plain, "the keyed run and the plain run agree");
-            let (mut plan, mut out) = (vec![0; buffers.plan.len()], vec![0; 2 * keys.len()]);
+            let mut prepared = lent(&mut random, run.plan().rooms());
+            let mut listed = vec![0; keys.len()];
+            assert!(!prepare(&run, &indexes, &keys, &mut prepared, &mut listed), "all keys are held");
+            assert_eq!((&prepared.plan, &prepared.records), (&buffers.plan, &buffers.records), "both prepare the same");
             bench.pair(
-                &format!("keyed, n = 0, 511 of {length}, {name}, plan"),
+                &format!("keyed, n = 0, 511 of {length}, {name}, parts"),
                 Some(1.0),
                 || ours::evaluate_keyed(keep(run.job(&keys, 0)), &mut buffers),
-                || {
-                    let refusal = ours::map_refusal(keep(run.map.lent()));
-                    let numbers = ours::index(keep(&indexes), MOST, run.how, &mut plan);
-                    (refusal, numbers, ours::plan_keys(keep(&indexes), MOST, run.how, &mut out))
-                },
+                || prepare(&run, &indexes, &keys, &mut prepared, &mut listed),
             );
         }
     }
