@@ -51,13 +51,27 @@ module _ {A : Type 0} (p : A → Bool) where
   each-false [] e = tt
   each-false (x ∷ xs) e = let b = either (p x) (some p xs) e in (b .0, each-false xs (b .1))
 
+-- a walk that ends at the first element of which p holds: of none before t it does
+pub record Clear {A : Type 0} (p : A → Bool) (xs : List A) (t : ℕ) : Type 0 where
+  pub room : t ≤ length xs
+  pub so-far : some p (take t xs) ≡ false
+
+pub clear-none : {A : Type 0} (p : A → Bool) (xs : List A) → Clear p xs 0
+clear-none p xs = record { room = omega arith; so-far = refl }
+
+module _ {A : Type 0} {p : A → Bool} {xs : List A} {t : ℕ} (s : Clear p xs t) where
+  pub clear-more : (d : A) → t < length xs → p (getD xs t d) ≡ false → Clear p xs (t + 1)
+  clear-more d l e = record { room = omega arith; so-far = rw (add-one, take-suc xs t d, some-append p, s .so-far, e) }
+
+  pub clear-done : length xs ≤ t → some p xs ≡ false
+  clear-done h = sym (ap (some p) (take-all t xs h)) ∙ s .so-far
+
 -- none of the babies before t is refused
 pub record Passed (step : ℕ) (bs : List ℤ) (t : ℕ) : Type 0 where
-  pub room : t ≤ length bs
-  pub so-far : some (λ z. noBaby z step) (take t bs) ≡ false
+  pub clear : Clear (λ z. noBaby z step) bs t
 
 pub passed-none : (step : ℕ) (bs : List ℤ) → Passed step bs 0
-passed-none step bs = record { room = omega arith; so-far = refl }
+passed-none step bs = record { clear = clear-none (λ z. noBaby z step) bs }
 
 module _ {step : ℕ} {bs : List ℤ} {t : ℕ} (s : Passed step bs t) where
   -- the code's answer r about the baby that it reads
@@ -68,18 +82,13 @@ module _ {step : ℕ} {bs : List ℤ} {t : ℕ} (s : Passed step bs t) where
   read r b g a = sym (ap (λ (z : ℤ). noBaby z step) (toZ-ofZ w64 (getD bs t (pos 0)) (sfits-of g))) ∙ sym (a .0) ∙ a .1
 
   pub passed-more : {r : Bool} → t < length bs → mag (getD bs t (pos 0)) < 2 ^ 63 → r ≡ noBaby (toZ w64 (ofZ w64 (getD bs t (pos 0)))) step → r ≡ false → Passed step bs (t + 1)
-  passed-more {r} l g a h =
-      let e : noBaby (getD bs t (pos 0)) step ≡ false = read r false g (a, h) in
-      record {
-        room = omega arith;
-        so-far = rw (add-one, take-suc bs t (pos 0), some-append (λ z. noBaby z step), s .so-far, e);
-      }
+  passed-more {r} l g a h = record { clear = clear-more (s .clear) (pos 0) l (read r false g (a, h)) }
 
   pub passed-refused : {r : Bool} → t < length bs → mag (getD bs t (pos 0)) < 2 ^ 63 → r ≡ noBaby (toZ w64 (ofZ w64 (getD bs t (pos 0)))) step → r ≡ true → true ≡ some (λ z. noBaby z step) bs
   passed-refused {r} l g a h = sym (some-here (λ z. noBaby z step) bs t (pos 0) l (read r true g (a, h)))
 
   pub passed-done : length bs ≤ t → false ≡ some (λ z. noBaby z step) bs
-  passed-done h = sym (sym (ap (some (λ z. noBaby z step)) (take-all t bs h)) ∙ s .so-far)
+  passed-done h = sym (clear-done (s .clear) h)
 
 -- ---- the list
 

@@ -39,7 +39,7 @@ use Rattle.linear_transformation.specs.Laws.CommonDivisors.{babyStep-bou
 use Rattle.linear_transformation.specs.Laws.Tables.{agree}
 use Rattle.linear_transformation.specs.Laws.Stored.{keys-low, power-keys-few, babies-switched}
 use Rattle.linear_transformation.proofs.Writings.{mark-more}
-use Rattle.linear_transformation.proofs.BabyChecks.{some-here}
+use Rattle.linear_transformation.proofs.BabyChecks.{some-here, Clear, clear-none, clear-more, clear-done}
 use Rattle.linear_transformation.proofs.Plannings.{diagonal-low}
 use Rattle.linear_transformation.proofs.Storings.{stored-first, stored-later}
 
@@ -80,26 +80,6 @@ module _ {held : List ℕ} {seen : List Bool} {t : ℕ} (s : Holding held seen t
             are = λ j q. s .so-far .are j q ∙ sym (more-are j ∙ ap (λ (b : Bool). among j (take t held) || (b || false)) (ne-eqb (getD held t 0) j (λ e. omega arith)) ∙ or-false (among j (take t held)));
           };
         }
-
--- ---- a walk that ends at the first number that fails
-
--- none of the numbers before t passes the test
-pub record Clear (p : ℕ → Bool) (xs : List ℕ) (t : ℕ) : Type 0 where
-  pub room : t ≤ length xs
-  pub so-far : some p (take t xs) ≡ false
-
-pub clear-none : (p : ℕ → Bool) (xs : List ℕ) → Clear p xs 0
-clear-none p xs = record { room = omega arith; so-far = refl }
-
-module _ {p : ℕ → Bool} {xs : List ℕ} {t : ℕ} (s : Clear p xs t) where
-  pub clear-more : t < length xs → p (getD xs t 0) ≡ false → Clear p xs (t + 1)
-  clear-more l e = record { room = omega arith; so-far = rw (add-one, take-suc xs t 0, some-append p, s .so-far, e) }
-
-  clear-found : t < length xs → p (getD xs t 0) ≡ true → true ≡ some p xs
-  clear-found l e = sym (some-here p xs t 0 l e)
-
-  clear-done : length xs ≤ t → some p xs ≡ false
-  clear-done h = sym (ap (some p) (take-all t xs h)) ∙ s .so-far
 
 -- ---- the keys where each rotation has its own
 
@@ -193,16 +173,16 @@ module _ {width : ℕ} {ds : List ℕ} {seen : List Bool} {t : ℕ} (s : TurnsHe
   module _ (l : t < length ds) {a : Bool} (e : a ≡ turnLacked seen (getD ds t 0 % width)) where
     pub turn-baby : a ≡ true → Lacking (keysPerRotation (babies 65536 width ds) (giants 65536 width ds)) seen true
     unfolding babyOf
-    turn-baby h = turns-lacking g (clear-found (s .clear) l (left {a = turnLacked seen (getD ds t 0 % width)} _ (sym e ∙ h)))
+    turn-baby h = turns-lacking g (sym (some-here (turnsLacked width seen) ds t 0 l (left {a = turnLacked seen (getD ds t 0 % width)} _ (sym e ∙ h))))
 
     module _ {b : Bool} (f : b ≡ turnLacked seen (getD ds t 0 - getD ds t 0 % width)) where
       pub turn-giant : b ≡ true → Lacking (keysPerRotation (babies 65536 width ds) (giants 65536 width ds)) seen true
       unfolding babyOf giantOf
-      turn-giant h = turns-lacking g (clear-found (s .clear) l (right (turnLacked seen (getD ds t 0 % width)) (sym f ∙ h)))
+      turn-giant h = turns-lacking g (sym (some-here (turnsLacked width seen) ds t 0 l (right (turnLacked seen (getD ds t 0 % width)) (sym f ∙ h))))
 
       pub turn-more : a ≡ false → b ≡ false → TurnsHeld width ds seen (t + 1)
       unfolding babyOf giantOf
-      turn-more h k = record { clear = clear-more (s .clear) l (rw (← e, ← f, h, k)) }
+      turn-more h k = record { clear = clear-more (s .clear) 0 l (rw (← e, ← f, h, k)) }
 
   pub turn-none : length ds ≤ t → Lacking (keysPerRotation (babies 65536 width ds) (giants 65536 width ds)) seen false
   turn-none h = turns-lacking g (sym (clear-done (s .clear) h))
@@ -237,10 +217,10 @@ module _ {count : ℕ} {list : List ℕ} {t : ℕ} (i : Listed count list) (h : 
 module _ {count : ℕ} {list : List ℕ} {seen : List Bool} {t : ℕ} (s : ListHeld count list seen t) (i : Listed count list) where
   module _ (h : t < count) {o : ℕ} (e : o ≡ getD list t 0) {b : Bool} (m : b ≡ not (marks seen o)) where
     pub listed-found : b ≡ true → Lacking (take count list) seen true
-    listed-found q = listed-lacking (i .low) (clear-found (s .clear) (taken-in i h) (rw (taken-at i h, ← e) (sym m ∙ q)))
+    listed-found q = listed-lacking (i .low) (sym (some-here (λ k. not (marks seen k)) (take count list) t 0 (taken-in i h) (rw (taken-at i h, ← e) (sym m ∙ q))))
 
     pub listed-more : b ≡ false → ListHeld count list seen (t + 1)
-    listed-more q = record { clear = clear-more (s .clear) (taken-in i h) (rw (taken-at i h, ← e) (sym m ∙ q)) }
+    listed-more q = record { clear = clear-more (s .clear) 0 (taken-in i h) (rw (taken-at i h, ← e) (sym m ∙ q)) }
 
   pub listed-none : count ≤ t → Lacking (take count list) seen false
   listed-none h = listed-lacking (i .low) (sym (clear-done (s .clear) (omega (arith, length-take-le count list (i .room)))))

@@ -44,6 +44,7 @@ ghost use Prim.Native.Nat.{max};
 ghost use Rattle.ring.specs.Residues.{residueOf};
 ghost use Rattle.ring.specs.Answers.{answered};
 ghost use Rattle.linear_transformation.specs.Strategies.{widthOutside};
+ghost use Rattle.linear_transformation.specs.Plans.{widthOf};
 ghost use Rattle.linear_transformation.specs.Calls.{normalizeRefusal};
 
 pub enum LinearTransformationStrategy {
@@ -59,15 +60,22 @@ fn larger(a: u32, b: u32) -> u32
     if a < b { b } else { a }
 }
 
+// The width of a strategy. `Direct` has width 1.
+pub fn width_of(strategy: LinearTransformationStrategy) -> usize
+    ensures { λ r. ⌜ r ≡ widthOf strategy ⌝ }
+{
+    match strategy {
+        LinearTransformationStrategy::Bsgs { giant_step: g } => g,
+        LinearTransformationStrategy::BsgsPowersOfTwo { giant_step: g } => g,
+        LinearTransformationStrategy::Direct => 1,
+    }
+}
+
 // Whether the strategy's width is below 1 or above 65,536: the test of refusal 3.
 pub fn is_width_outside(strategy: LinearTransformationStrategy) -> bool
     ensures { λ r. ⌜ r ≡ widthOutside strategy ⌝ }
 {
-    match strategy {
-        LinearTransformationStrategy::Bsgs { giant_step: g } => ring::is_outside(g),
-        LinearTransformationStrategy::BsgsPowersOfTwo { giant_step: g } => ring::is_outside(g),
-        LinearTransformationStrategy::Direct => false,
-    }
+    ring::is_outside(width_of(strategy))
 }
 
 // The least non-negative residue of a diagonal index. Refuses with 1 slots outside 1..=65536.

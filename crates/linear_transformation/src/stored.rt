@@ -23,7 +23,7 @@ use crate::plan::PlanAnswer;
 use crate::plan::baby_step_of;
 use crate::plan::count_giants;
 use crate::plan::plan_sorted;
-use crate::plan::width_of;
+use crate::plan::word_width;
 use crate::rotations::TreeAnswer;
 
 // The numbers of babies, giants, pairs and switches, and the baby step (0 per rotation).
@@ -293,7 +293,7 @@ fn needs_of(ds: &[u32], slots: u32, strategy: LinearTransformationStrategy) -> N
     let turns = giant_switches(ds, slots, strategy);
     NeedsAnswer::Is {
         babies: made + 1,
-        giants: count_giants(ds, width_of(strategy)),
+        giants: count_giants(ds, word_width(strategy)),
         pairs: pairs_of(strategy, turns),
         switches: made + turns,
         step: step_of(ds, strategy),

@@ -2,12 +2,12 @@
 -- Assumes nothing.
 use Prim.Native.Nat.{ℕ, zero, suc, _+_, _-_, _*_, _≤_}
 use mathlib.Core.Path.{_≡_, refl, sym, ap, _∙_}
-use mathlib.Core.List.{List, _∷_, map}
+use mathlib.Core.List.{List, _∷_}
 use native.Mathlib.Nat.{not-suc-le-zero, le-of-suc-le-suc}
 use native.Mathlib.Omega.{arith}
 use lib.ListN.{length, take}
 use Rattle.ring.specs.Vectors.{tabulate}
-use Rattle.ring.specs.Laws.Vectors.{length-tabulate, map-tabulate}
+use Rattle.ring.specs.Laws.Vectors.{length-tabulate}
 use Rattle.linear_transformation.specs.declared.LinearTransformationStrategy.{LinearTransformationStrategy}
 use Rattle.linear_transformation.specs.declared.LinearTransformationStrategy.the-variants.{Bsgs, BsgsPowersOfTwo, Direct}
 use Rattle.linear_transformation.specs.Plans.{widthOf}
@@ -16,7 +16,7 @@ use Rattle.linear_transformation.specs.Schedules.{planGiants}
 use Rattle.linear_transformation.specs.Stored.{stepOf}
 use Rattle.linear_transformation.specs.Laws.Plans.{giants-rise, giants-below}
 use Rattle.linear_transformation.specs.Laws.Stored.{nonzeros-few}
-use Rattle.runs.specs.Switches.{Switch, rotationOf, ownGiants, giantSchedule}
+use Rattle.runs.specs.Switches.{Switch, ownGiants, giantSchedule}
 use Rattle.runs.specs.Machines.{nodeSum, answerOf}
 use Rattle.runs.specs.Laws.Schedules.{step-positive, own-giants}
 use Rattle.runs.specs.Steps.Giants.{turnAt, TurnsAsked}
@@ -66,11 +66,6 @@ module _ (slots : ℕ) (strategy : LinearTransformationStrategy) (ks : List ℕ)
     giants-by =
         rw (giants-many)
         (sym (ap (take n) table ∙ take-tabulate n (length (nonzeros gs)) (turnAt gs (length gs - length (nonzeros gs))) (omega (arith, giants-many))))
-
-    -- and their rotations
-    pub giants-logged : let gs = planGiants slots strategy ks in let ws = giantSchedule slots strategy ks in
-        tabulate n (λ p. rotationOf (turnAt gs (length gs - length ws) p)) ≡ map rotationOf (take n ws)
-    giants-logged = sym (map-tabulate rotationOf n (turnAt gs (length gs - length switches))) ∙ ap (map rotationOf) giants-by
 
     -- what the loop over them asks
     pub turns-of : let gs = planGiants slots strategy ks in let ws = giantSchedule slots strategy ks in

@@ -4,7 +4,7 @@
 use Prim.Native.Nat.{ℕ, _+_, _*_, _^_, _≤_, _<_}
 use mathlib.Core.Path.{_≡_, refl, sym, ap, _∙_}
 use mathlib.Core.Bool.{Bool, true, false, not}
-use mathlib.Core.List.{List, [], _∷_, _++_, map}
+use mathlib.Core.List.{List, [], _∷_, _++_}
 use native.Mathlib.Nat.{not-suc-le-zero, zero-mul}
 use native.Mathlib.Omega.{arith}
 use lib.Dec.{eqb}
@@ -14,7 +14,7 @@ use Rattle.ring.specs.Refusals.{Range}
 use Rattle.ring.specs.Vectors.{tabulate, inFront}
 use Rattle.ring.specs.Laws.Lists.{each-both}
 use Rattle.ring.specs.Laws.Refusals.{inside}
-use Rattle.ring.specs.Laws.Vectors.{length-tabulate, map-tabulate, tabulate-cong}
+use Rattle.ring.specs.Laws.Vectors.{length-tabulate, tabulate-cong}
 use Rattle.linear_transformation.specs.declared.LinearTransformationStrategy.{LinearTransformationStrategy}
 use Rattle.linear_transformation.specs.declared.LinearTransformationStrategy.the-variants.{Bsgs, BsgsPowersOfTwo, Direct}
 use Rattle.linear_transformation.specs.Strategies.{widthOutside}
@@ -25,7 +25,7 @@ use Rattle.linear_transformation.specs.Stored.{stepOf, pairCount, planLevels, p
 use Rattle.linear_transformation.specs.Laws.Plans.{width-positive, giants-below, giants-multiple}
 use Rattle.linear_transformation.specs.Laws.Stored.{tree-bits-low, tree-levels-length, records-length}
 use Rattle.linear_transformation.specs.Laws.Widths.{distinct-planned}
-use Rattle.runs.specs.Switches.{rotationOf, joined, treeSchedule, giantSchedule}
+use Rattle.runs.specs.Switches.{joined, treeSchedule, giantSchedule}
 use Rattle.runs.specs.Machines.{vectorAt, topNode, answerOf}
 use Rattle.runs.specs.Laws.NodePlaces.{top-place}
 use Rattle.runs.specs.Laws.PairSchedules.{rotationAt, pair-table, record-odd, record-even, level-rotation-word}
@@ -205,10 +205,6 @@ module _ (slots : ℕ) (strategy : LinearTransformationStrategy) (ks : List ℕ)
     pairs-by =
         tabulate-cong n (joinAt gs width slots size levels records) _ (λ q l. join-is q (omega (arith, below-pairs)))
         ∙ sym (ap (take n) (schedule-is slots strategy ks s ∙ pair-table slots width ks) ∙ take-tabulate n (treeSwitches t) _ below-pairs)
-
-    -- and their rotations
-    pub pairs-logged : tabulate n (λ q. rotationOf (joinAt (planGiants slots strategy ks) (widthOf strategy) slots size levels records q)) ≡ map rotationOf (take n (giantSchedule slots strategy ks))
-    pairs-logged = sym (map-tabulate rotationOf n (joinAt gs width slots size levels records)) ∙ ap (map rotationOf) pairs-by
 
     -- what the loop over them asks
     pub pairs-of : Range slots → widthOutside strategy ≡ false → Distinct slots ks → (k : ℕ) → length (planGiants slots strategy ks) * slots ≤ k → PairsAsked (planGiants slots strategy ks) (widthOf strategy) slots size levels records n k

@@ -33,9 +33,6 @@ vector-room p n slots l =
     omega (arith, suc-mul p slots, e)
 
 module _ {f : ℕ → ℕ → ℕ} {n slots : ℕ} {old : List ℕ} where
-  pub made-none : MadeTo f n slots (λ p. 0) old old
-  made-none = record { len = refl; done = λ p s l h m. absurd (omega arith); todo = λ p s l h m. refl; behind = λ i h. refl }
-
   module _ {upto : ℕ → ℕ} {new : List ℕ} (m : MadeTo f n slots upto old new) (room : n * slots ≤ length old) (p slot size : ℕ) (l : p < n) (here : upto p ≡ slot) (inside : slot + size ≤ slots) {ys : List ℕ} (is : ys ≡ tabulate size (λ j. f p (slot + j))) where
     abbrev at : ℕ
     at = p * slots + slot
@@ -181,9 +178,6 @@ module _ (bs gs cuts pairs values input cache : List ℕ) where
       pub part-room : p * length input + slot + size ≤ length nodes
       part-room = omega (arith, vector-room p (length gs) (length input) l, t .asked .room, t .inside, n .len)
 
-      pub cut-inside : 2 * p + 1 < length cuts
-      cut-inside = omega (arith, t .asked .sizes)
-
       pub giant-asked : {g first count : ℕ} → g ≡ getD gs p 0 → first ≡ getD cuts (2 * p) 0 → count ≡ getD cuts (2 * p + 1) 0 → GiantAsked bs g first count at pairs values input cache
       giant-asked e f s = let a = t .asked in record { count = a .count; few = a .few; formed = a .formed; babies = a .babies; run = rw (e, f, s) (a .runs p l); start-is = rw f (n .at-is l) }
 
@@ -226,9 +220,6 @@ module _ (bs gs cuts pairs values input cache : List ℕ) where
     pub made : MadeTo node (length gs) (length input) (λ q. slot) old nodes
 
   module _ {old : List ℕ} (a : NodesAsked bs gs cuts pairs values input cache old) where
-    pub noding-none : Noding old old 0
-    noding-none = record { room = omega arith; made = made-none }
-
     module _ {nodes : List ℕ} {slot : ℕ} (n : Noding old nodes slot) where
       pub tile-asked : {size : ℕ} → size ≤ length input - slot → TileAsked bs gs cuts pairs values input cache slot size nodes
       tile-asked h =

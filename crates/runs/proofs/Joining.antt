@@ -4,7 +4,6 @@ use Prim.Native.Nat.{ℕ, suc, _+_, _-_, _*_, _≤_, _<_}
 use mathlib.Core.Path.{_≡_, refl, sym, ap, _∙_}
 use mathlib.Core.Bool.{cond}
 use mathlib.Core.List.{List, [], _∷_}
-use native.Mathlib.Nat.{zero-add}
 use native.Mathlib.Omega.{arith}
 use borrow.Author.Tests.{lt-ltb, le-ltb}
 use lib.Dec.{ltb}
@@ -83,9 +82,6 @@ level-short (r ∷ n ∷ ws) q h = absurd (omega arith)
 pub record Leveling (ws : List ℕ) (q left i : ℕ) : Type 0 where
   pub is : levelIn ws q ≡ i + levelIn (drop (2 * i) ws) left
   pub inside : 2 * i ≤ length ws
-
-pub leveling-none : (ws : List ℕ) (q : ℕ) → Leveling ws q q 0
-leveling-none ws q = record { is = sym (zero-add (levelIn ws q)); inside = omega arith }
 
 module _ {ws : List ℕ} {q left i : ℕ} (v : Leveling ws q left i) where
   module _ (h : 2 * i + 1 < length ws) {n : ℕ} (e : n ≡ getD ws (2 * i + 1) 0) where

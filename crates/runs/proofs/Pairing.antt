@@ -36,7 +36,7 @@ use Rattle.runs.specs.Laws.Turnings.{length-summed}
 use Rattle.runs.specs.Laws.Elements.{mapped-at}
 use Rattle.runs.specs.Steps.Keyed.{TurnAsked, AddTurn}
 use Rattle.runs.proofs.TwoRuns.{apart}
-use Rattle.runs.specs.Steps.Giants.{levelIn, leafBy, leavesBy, LeafAsked, NodeAsked, RecordAsked, PairAsked, PairJoined}
+use Rattle.runs.specs.Steps.Giants.{levelIn, leafBy, leavesBy, LeafAsked, NodeAsked, PairAsked, PairJoined}
 
 -- ---- leaves
 
@@ -140,9 +140,6 @@ module _ {gs : List ℕ} {width slots size q n : ℕ} {levels records : List ℕ
 
   abbrev leavesOf : List ℕ
   leavesOf = leavesBy slots width size gs
-
-  pub record-asked : RecordAsked records q
-  record-asked = record { inside = a .record-inside }
 
   pub odd-asked : {l o : ℕ} → l ≡ level → o ≡ odd → NodeAsked gs width slots size l o
   odd-asked e f = rw (e, f) (record { leafy = a .leafy; there-is = a .odd-there; small = a .small; low = a .level-low })

@@ -6,7 +6,6 @@ ghost use Rattle.ring.specs.Refusals.{firstOf};
 ghost use Prim.Native.Nat.{_-_, _≤_, min};
 ghost use Rattle.diagonals.specs.Maps.{view};
 ghost use Rattle.runs.specs.Keyed.{lent, keyedLeft, KeyedRun};
-ghost use Rattle.linear_transformation.specs.Plans.{widthOf};
 ghost use Rattle.runs.specs.Steps.Surveys.{noSurvey, Surveyed, Sized, PlanAsked, PlanLeft};
 ghost use Rattle.runs.specs.Steps.Runs.{TurningAsked, NodesTurned, RunAsked, GiantsLeft, RunLeft};
 ghost use Rattle.runs.specs.Steps.Ready.{surveyRoom, Ready, Small, answeredBy};
@@ -162,16 +161,6 @@ fn write_plan(
     }
 }
 
-fn width_of(strategy: LinearTransformationStrategy) -> usize
-    ensures { λ r. ⌜ r ≡ widthOf strategy ⌝ }
-{
-    match strategy {
-        LinearTransformationStrategy::Bsgs { giant_step: g } => g,
-        LinearTransformationStrategy::BsgsPowersOfTwo { giant_step: g } => g,
-        LinearTransformationStrategy::Direct => 1,
-    }
-}
-
 // The first `made` of the giant switches, `turns` in all, with their rotations in the log from `logged`
 // on. Step 0 says that each rotation has its own key; a giant 0, if there is one, stands first and is
 // not turned.
@@ -253,7 +242,7 @@ fn run_giants<'a>(
     turn_nodes(
         survey.step,
         turns,
-        width_of(strategy),
+        linear_transformation::width_of(strategy),
         1u32 << bits,
         made,
         slots,

@@ -143,7 +143,7 @@ fn check_refused(cases: &mut Cases, job: Job, lent: &Buffers, refusal: u32) {
 /// Every n to one past the last switch, and n that are huge; buffers that are full and longer ones in turn.
 fn check_every_n(cases: &mut Cases, random: &mut Random, run: &Run) {
     let plan = run.plan();
-    let keys: Vec<u64> = plan.keys().into_iter().collect();
+    let keys = plan.keys();
     let more = held_among(random, &keys, &[0, u64::MAX]);
     let (full, room) = (lent(random, plan.rooms()), longer(random, plan.rooms()));
     let spare = lent(random, room);
@@ -159,7 +159,7 @@ fn check_every_n(cases: &mut Cases, random: &mut Random, run: &Run) {
 /// No switch, some and all, in buffers that are full or longer.
 fn check_some_n(cases: &mut Cases, random: &mut Random, run: &Run) {
     let plan = run.plan();
-    let keys: Vec<u64> = plan.keys().into_iter().collect();
+    let keys = plan.keys();
     let rooms = if random.below(2) == 0 { plan.rooms() } else { longer(random, plan.rooms()) };
     let lent = lent(random, rooms);
     for n in [0, random.below(plan.switches() + 1), random.below(plan.switches() + 1), plan.switches()] {
@@ -275,7 +275,7 @@ fn short_rooms(rooms: [usize; 6]) -> impl Iterator<Item = [usize; 6]> {
 /// Each buffer one short in turn, the others full and longer, for any n.
 fn check_short(cases: &mut Cases, random: &mut Random, run: &Run) {
     let plan = run.plan();
-    let keys: Vec<u64> = plan.keys().into_iter().collect();
+    let keys = plan.keys();
     for rooms in short_rooms(plan.rooms()) {
         let lent = lent(random, rooms);
         for n in [0, random.below(plan.switches() + 1) as u64, u64::MAX] {
@@ -292,7 +292,7 @@ fn check_huge_rooms(cases: &mut Cases, random: &mut Random) {
     for (width, huge) in [(1, 3), (MOST, 2)] {
         let run = Run { map: map.clone(), input: random.words(MOST), how: (1, width) };
         let plan = run.plan();
-        let keys: Vec<u64> = plan.keys().into_iter().collect();
+        let keys = plan.keys();
         for room in [0, 1, MOST] {
             let mut rooms = plan.rooms();
             rooms[huge] = room;
@@ -330,7 +330,7 @@ fn one_of<T: Copy>(random: &mut Random, list: &[T]) -> T {
 fn check_order(cases: &mut Cases, random: &mut Random, run: &Run) {
     let slots = run.map.slots;
     let plan = run.plan();
-    let keys: Vec<u64> = plan.keys().into_iter().collect();
+    let keys = plan.keys();
     for set in 0..1u32 << REFUSALS.len() {
         let reasons: Vec<u32> = (0..REFUSALS.len()).filter(|i| set >> i & 1 == 1).map(|i| REFUSALS[i]).collect();
         let mut spoilt = run.clone();
@@ -403,6 +403,27 @@ fn check_empty(cases: &mut Cases, random: &mut Random, slots: usize, how: How) {
     cases.same(call, (ours, differences(&now, &lent), around), (numbers, [None; 6], true));
 }
 
+/// A run of each subset of up to 8 diagonals, by every width and strategy.
+fn on_subsets(random: &mut Random, mut check: impl FnMut(&mut Random, &Run)) {
+    for slots in 1..=8 {
+        for list in subsets(slots) {
+            for how in every_how(slots) {
+                let run = Run::of(random, slots, &list, how);
+                check(random, &run);
+            }
+        }
+    }
+}
+
+/// Any run by each kind of strategy.
+fn on_kinds(random: &mut Random, slots: usize, mut check: impl FnMut(&mut Random, &Run)) {
+    for kind in 0..3 {
+        let mut run = any_run(random, slots);
+        run.how.0 = kind;
+        check(random, &run);
+    }
+}
+
 pub fn compare(tally: &mut Tally) {
     let mut random = Random::new(18);
     tally.run("keyed run: document 01's E6, E7 and E10", |cases| {
@@ -414,14 +435,7 @@ pub fn compare(tally: &mut Tally) {
         }
     });
     tally.run("keyed run: all subsets of up to 8 slots, every width and strategy, every n, every word", |cases| {
-        for slots in 1..=8 {
-            for list in subsets(slots) {
-                for how in every_how(slots) {
-                    let run = Run::of(&mut random, slots, &list, how);
-                    check_every_n(cases, &mut random, &run);
-                }
-            }
-        }
+        on_subsets(&mut random, |random, run| check_every_n(cases, random, run));
     });
     tally.run("keyed run: some subsets of 9 to 16 slots, every width and strategy, every n, every word", |cases| {
         for slots in 9..=16 {
@@ -444,14 +458,7 @@ pub fn compare(tally: &mut Tally) {
         }
     });
     tally.run("keyed run: finished, all subsets of up to 8 slots, beside the Rust", |cases| {
-        for slots in 1..=8 {
-            for list in subsets(slots) {
-                for how in every_how(slots) {
-                    let run = Run::of(&mut random, slots, &list, how);
-                    check_finished(cases, &mut random, &run);
-                }
-            }
-        }
+        on_subsets(&mut random, |random, run| check_finished(cases, random, run));
     });
     tally.run("keyed run: finished, random maps to 65,536 slots, beside the Rust", |cases| {
         for slots in (1..=300).chain([1_024, 4_096]) {
@@ -459,30 +466,20 @@ pub fn compare(tally: &mut Tally) {
             check_finished(cases, &mut random, &run);
         }
         for slots in [46_189, 65_535, MOST] {
-            for kind in 0..3 {
-                let mut run = any_run(&mut random, slots);
-                run.how.0 = kind;
-                check_finished(cases, &mut random, &run);
-                check_some_n(cases, &mut random, &run);
-            }
+            on_kinds(&mut random, slots, |random, run| {
+                check_finished(cases, random, run);
+                check_some_n(cases, random, run);
+            });
         }
     });
     tally.run("keyed run: each key missing, among others in any order and numbers like it", |cases| {
         for slots in 1..=100 {
-            for kind in 0..3 {
-                let mut run = any_run(&mut random, slots);
-                run.how.0 = kind;
-                check_missing(cases, &mut random, &run);
-            }
+            on_kinds(&mut random, slots, |random, run| check_missing(cases, random, run));
         }
     });
     tally.run("keyed run: each buffer one short, nothing changed; rooms of 2^32 words", |cases| {
         for slots in 1..=100 {
-            for kind in 0..3 {
-                let mut run = any_run(&mut random, slots);
-                run.how.0 = kind;
-                check_short(cases, &mut random, &run);
-            }
+            on_kinds(&mut random, slots, |random, run| check_short(cases, random, run));
         }
         check_huge_rooms(cases, &mut random);
     });
@@ -549,7 +546,7 @@ pub fn sample(sample: &mut Sample) {
     for (how, steps) in [((1, 4), 0..7), ((0, 4), 4..6)] {
         let run = small_run(&mut random, 16, &example, how);
         let plan = run.plan();
-        let keys: Vec<u64> = plan.keys().into_iter().collect();
+        let keys = plan.keys();
         for n in steps {
             record(sample, &run, &keys, n, plan.rooms());
         }
@@ -611,7 +608,7 @@ pub fn bench(bench: &mut Bench) {
         for (name, kind, slower) in [("Bsgs(32)", 0, 1.4), ("powers of two (32)", 1, 1.5)] {
             run.how.0 = kind;
             let strategy = accepted(MOST, run.how).unwrap();
-            let keys: Vec<u64> = run.plan().keys().into_iter().collect();
+            let keys = run.plan().keys();
             let mut buffers = lent(&mut random, run.plan().rooms());
             let mut plain = vec![0; MOST];
             if kind == 0 {

@@ -184,8 +184,9 @@ impl Plan {
     }
 
     /// The key rotations, each once: a pass or level with no switch asks for no key.
-    pub fn keys(&self) -> BTreeSet<u64> {
-        self.steps().map(|&(rotation, _)| rotation as u64).collect()
+    pub fn keys(&self) -> Vec<u64> {
+        let keys: BTreeSet<u64> = self.steps().map(|&(rotation, _)| rotation as u64).collect();
+        keys.into_iter().collect()
     }
 
     fn diagonals(&self) -> usize {

@@ -17,6 +17,7 @@ use Rattle.ring.specs.Residues.{residueOf, named, diagonalsOf}
 use Rattle.ring.specs.Searches.{only, below}
 use Rattle.ring.specs.Laws.Lists.{join-cong, length-join, each-then, each-all}
 use Rattle.ring.specs.Laws.Below.{below-low, below-passes, below-rising, below-ext}
+use Rattle.ring.specs.Refusals.{outside}
 use Rattle.ring.specs.Laws.Refusals.{inside}
 use Rattle.linear_transformation.specs.declared.LinearTransformationStrategy.{LinearTransformationStrategy}
 use Rattle.linear_transformation.specs.declared.LinearTransformationStrategy.the-variants.{Bsgs, BsgsPowersOfTwo, Direct}
@@ -301,6 +302,12 @@ module _ (slots : ℕ) where
       some-append t xs (xs ++ ys) ∙ rw (some-append t xs ys) (or-self-left (some t xs) (some t ys)))
 
 -- ---- the width of a strategy
+
+-- the width is what refusal 3 is about; that of `Direct` is never outside
+pub width-outside : (s : LinearTransformationStrategy) → outside (widthOf s) ≡ widthOutside s
+width-outside (Bsgs giant) = refl
+width-outside (BsgsPowersOfTwo giant) = refl
+width-outside Direct = refl
 
 pub width-positive : (s : LinearTransformationStrategy) → widthOutside s ≡ false → 0 < widthOf s
 width-positive (Bsgs giant) e = inside giant e .0

@@ -1,10 +1,10 @@
 -- Laws of caches and nodes after switches made one after the other.
 -- Assumes nothing.
-use Prim.Native.Nat.{ℕ, suc, _+_}
+use Prim.Native.Nat.{ℕ, _+_}
 use mathlib.Core.Path.{_≡_, refl, ap, _∙_}
 use mathlib.Core.List.{List, [], _∷_, _++_}
 use Rattle.ring.specs.Vectors.{tabulate}
-use Rattle.ring.specs.Laws.Vectors.{tabulate-more, tabulate-snoc}
+use Rattle.ring.specs.Laws.Vectors.{tabulate-more}
 use Rattle.runs.specs.Switches.{Switch}
 use Rattle.runs.specs.Machines.{State, cacheAfter, nodesAfter, switched, switchedAll}
 use Rattle.runs.specs.Steps.Keyed.{cacheBy, nodesBy}
@@ -32,9 +32,6 @@ module _ (slots : ℕ) (input : List ℕ) where
   pub cache-more : (cache : List ℕ) (n : ℕ) (f : ℕ → Switch) → cacheBy slots input cache (tabulate (n + 1) f) ≡ cacheAfter slots input (cacheBy slots input cache (tabulate n f)) (f n)
   cache-more cache n f = ap (cacheBy slots input cache) (tabulate-more n f) ∙ cache-append cache (tabulate n f) (f n ∷ [])
 
-  pub cache-suc : (cache : List ℕ) (n : ℕ) (f : ℕ → Switch) → cacheBy slots input cache (tabulate (suc n) f) ≡ cacheAfter slots input (cacheBy slots input cache (tabulate n f)) (f n)
-  cache-suc cache n f = ap (cacheBy slots input cache) (tabulate-snoc n f) ∙ cache-append cache (tabulate n f) (f n ∷ [])
-
 -- ---- nodes
 
 module _ (m slots : ℕ) where
@@ -45,6 +42,3 @@ module _ (m slots : ℕ) where
   -- one switch more
   pub nodes-more : (nodes : List ℕ) (n : ℕ) (f : ℕ → Switch) → nodesBy m slots nodes (tabulate (n + 1) f) ≡ nodesAfter m slots (nodesBy m slots nodes (tabulate n f)) (f n)
   nodes-more nodes n f = ap (nodesBy m slots nodes) (tabulate-more n f) ∙ nodes-append nodes (tabulate n f) (f n ∷ [])
-
-  pub nodes-suc : (nodes : List ℕ) (n : ℕ) (f : ℕ → Switch) → nodesBy m slots nodes (tabulate (suc n) f) ≡ nodesAfter m slots (nodesBy m slots nodes (tabulate n f)) (f n)
-  nodes-suc nodes n f = ap (nodesBy m slots nodes) (tabulate-snoc n f) ∙ nodes-append nodes (tabulate n f) (f n ∷ [])

@@ -8,7 +8,7 @@ use native.Mathlib.Nat.{not-suc-le-zero, le-of-suc-le-suc, add-zero}
 use native.Mathlib.Numerals.{add-one}
 use native.Mathlib.Omega.{arith}
 use lib.ListN.{length, getD, take, drop, length-map, length-append, take-append-drop, List·getD-append}
-use lib.Seq.{take-suc, take-length, split-at, getD-append-add}
+use lib.Seq.{take-suc, split-at, getD-append-add}
 use Rattle.ring.specs.Lists.{join, sumBy, among}
 use Rattle.ring.specs.Vectors.{tabulate}
 use Rattle.ring.specs.Slots.{mulm}
@@ -84,9 +84,6 @@ before-same f g same (x ∷ xs) = omega (arith, length-append (f x) (join f xs),
 -- ---- where the diagonals of a giant stand
 
 module _ (width : ℕ) (ks gs : List ℕ) where
-  pub first-none : firstOf width ks gs 0 ≡ 0
-  first-none = refl
-
   pub first-suc : (p : ℕ) → p < length gs → firstOf width ks gs (suc p) ≡ firstOf width ks gs p + sizeOf width ks gs p
   first-suc p l = before-suc (babiesAt width ks) gs p l
 
@@ -104,11 +101,6 @@ module _ (slots width : ℕ) (ks : List ℕ) where
   cut-size p l = cuts-size (babiesAt width ks) 0 (giants slots width ks) p l
 
 module _ {slots width : ℕ} {ks : List ℕ} (w : Planned slots width ks) where
-  -- all diagonals are those of a giant
-  pub planned-all : firstOf width ks (giants slots width ks) (length (giants slots width ks)) ≡ length ks
-  unfolding planIndex
-  planned-all = ap (λ (t : List ℕ). length (join (babiesAt width ks) t)) (take-length (giants slots width ks)) ∙ index-length w
-
   pub planned-inside : (p : ℕ) → p < length (giants slots width ks) → firstOf width ks (giants slots width ks) p + sizeOf width ks (giants slots width ks) p ≤ length ks
   unfolding planIndex
   planned-inside p l =
@@ -164,9 +156,6 @@ module _ {slots count : ℕ} {pairs values : List ℕ} (w : WellFormed slots cou
 
   ks-length : length ks ≡ count
   ks-length = length-map (view count pairs values) (λ d. d .offset) ∙ length-view count pairs values
-
-  pub first-all : firstOf width ks gs (length gs) ≡ count
-  first-all = planned-all map-planned ∙ ks-length
 
   pub run-inside : (p : ℕ) → p < length gs → firstOf width ks gs p + sizeOf width ks gs p ≤ count
   run-inside p l = omega (arith, planned-inside map-planned p l, ks-length)

@@ -107,6 +107,3 @@ record-even ls q =
 
 pub level-rotation-word : (ls : List Level) (i : ℕ) → getD (levelWords ls) (2 * i) 0 ≡ rotationAt ls i
 level-rotation-word ls i = first-word (λ (l : Level). l .rotation .0) (λ l. length (l .pairs)) ls i
-
-pub level-count-word : (ls : List Level) (i : ℕ) → getD (levelWords ls) (2 * i + 1) 0 ≡ getD (map (λ l. length (l .pairs)) ls) i 0
-level-count-word ls i = second-word (λ (l : Level). l .rotation .0) (λ l. length (l .pairs)) ls i

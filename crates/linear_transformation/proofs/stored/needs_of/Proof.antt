@@ -15,11 +15,11 @@ giant-switches-requires c κs = search needs
 add-t6 : tie.Need-add-t6
 add-t6 c = search needs
 
-width-of-requires : tie.Need-width-of-requires
-width-of-requires c κs = search needs
+word-width-requires : tie.Need-word-width-requires
+word-width-requires c κs = search needs
 
 count-giants-requires : tie.Need-count-giants-requires
-count-giants-requires c κs = sized (of-width (c .before .before .before .before .pre) (sym (c .width-of .ensures)))
+count-giants-requires c κs = sized (of-width (c .before .before .before .before .pre) (sym (c .word-width .ensures)))
 
 pairs-of-requires : tie.Need-pairs-of-requires
 pairs-of-requires c κs = search needs
@@ -31,7 +31,7 @@ step-of-requires : tie.Need-step-of-requires
 step-of-requires c κs = wide-accepted (c .before .before .before .before .before .before .pre)
 
 returns : tie.Need-returns
-returns c = needs-are (c .before .before .before .before .before .before .before .pre) (c .before .before .before .before .before .baby-switches .ensures) (c .before .before .before .before .giant-switches .ensures) (c .before .before .before .width-of .ensures) (c .before .before .count-giants .ensures) (c .before .pairs-of .ensures) (c .step-of .ensures)
+returns c = needs-are (c .before .before .before .before .before .before .before .pre) (c .before .before .before .before .before .baby-switches .ensures) (c .before .before .before .before .giant-switches .ensures) (c .before .before .before .word-width .ensures) (c .before .before .count-giants .ensures) (c .before .pairs-of .ensures) (c .step-of .ensures)
 
 pub needs-of-spec : {M : Type 1} → statement M
 needs-of-spec =
@@ -40,7 +40,7 @@ needs-of-spec =
     baby-switches-requires
     giant-switches-requires
     add-t6
-    width-of-requires
+    word-width-requires
     count-giants-requires
     pairs-of-requires
     add-t10
