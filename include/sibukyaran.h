@@ -1,10 +1,10 @@
 /* The C library: the calls of the crates under C names, proved for all arguments.
  *
  * A refusal is document 01's number, 0 for none: the first of the call's list that applies. A refused call leaves every
- * lent word as it was, and its value is 0. A slice is a pointer and a count; of a count of 0 the pointer is not read. Lent
- * outputs overlap nothing else that is lent to the same call.
+ * lent word and record as it was, and its value is 0. A slice is a pointer and a count; of a count of 0 the pointer is not
+ * read. Lent outputs overlap nothing else that is lent to the same call.
  *
- * Stack: a call needs up to 578 KiB (the best width; the keyed run 577, the plan's keys 514, the builders of maps 320, the
+ * Stack: a call needs up to 582 KiB (the keyed run; the best width 578, the plan's keys 514, the builders of maps 320, the
  * plain run 4), measured on x86-64. A thread of 1 MiB is enough for each.
  */
 #ifndef SIBUKYARAN_H
@@ -55,6 +55,12 @@ struct sibukyaran_tree_numbers {
     uint32_t refusal;
     uint32_t bits;
     size_t pairs;
+};
+
+/* A pair of a tree. */
+struct sibukyaran_pair_record {
+    uint32_t odd;    /* the odd node */
+    bool even_there; /* whether node odd - 1 is there */
 };
 
 /* a * b modulo 2^64. */
@@ -150,14 +156,14 @@ uint32_t sibukyaran_evaluate(size_t slots, size_t count, const uint32_t *pairs, 
 
 /* ---- The keyed run: the same product by key switches alone, each a rotation whose key is held, stopped after n switches.
  *
- * plan, of B + 3 * G + D words, and records, of two words a pair of the tree (the odd node, and 1 where the even one is
- * there, else 0; none but with powers of two), are written in full for every n. cache, of (B - 1) * slots words, nodes, of
- * G * slots, log, with a word for each switch of the plan, and out, of slots, hold what document 01's machine leaves after n
- * switches; words that it has not written, and words behind a result, are kept. Finished, out begins with the product.
- * B, G and D are the numbers of babies, giants and diagonals that the answer carries.
+ * plan, of B + 3 * G + D words, and records, one a pair of the tree, level after level (none but with powers of two), are
+ * written in full for every n. cache, of (B - 1) * slots words, nodes, of G * slots, log, with a word for each switch of the
+ * plan, and out, of slots, hold what document 01's machine leaves after n switches; words that it has not written, and words
+ * and records behind a result, are kept. Finished, out begins with the product. B, G and D are the numbers of babies, giants
+ * and diagonals that the answer carries.
  *
  * 3 and 7: as above. 11: a key rotation of the plan is not on the held list, which may be in any order. 12: an output is
- * shorter than its whole result. After a refusal no word is changed. */
+ * shorter than its whole result; records_len counts records. After a refusal no word and no record is changed. */
 
 struct sibukyaran_keyed_numbers {
     uint32_t refusal;
@@ -172,8 +178,9 @@ struct sibukyaran_keyed_numbers {
 struct sibukyaran_keyed_numbers sibukyaran_evaluate_keyed(
     size_t slots, size_t count, const uint32_t *pairs, size_t pairs_len, const uint64_t *values, size_t values_len,
     const uint64_t *input, size_t input_len, uint32_t strategy, size_t giant_step, const uint64_t *held, size_t held_len,
-    uint64_t n, uint32_t *plan, size_t plan_len, uint32_t *records, size_t records_len, uint64_t *cache, size_t cache_len,
-    uint64_t *nodes, size_t nodes_len, uint32_t *log, size_t log_len, uint64_t *out, size_t out_len);
+    uint64_t n, uint32_t *plan, size_t plan_len, struct sibukyaran_pair_record *records, size_t records_len,
+    uint64_t *cache, size_t cache_len, uint64_t *nodes, size_t nodes_len, uint32_t *log, size_t log_len, uint64_t *out,
+    size_t out_len);
 
 /* ---- Plans. */
 
@@ -246,12 +253,14 @@ struct sibukyaran_numbers sibukyaran_baby_key_rotations(uint32_t rotations, size
                                                         size_t slots, const int64_t *babies, size_t babies_len,
                                                         uint32_t *out, size_t out_len);
 
-/* The tree over the giants: a leaf a giant, two words (rotation, number of pairs) a level, two words (odd node, 1 if node
- * odd - 1 is there) a pair. Per rotation there is none, and nothing is written. */
+/* The tree over the giants: a leaf a giant, two words (rotation, number of pairs) a level, a record a pair, level after
+ * level. records_len counts records; those behind the tree's are kept. Per rotation there is none, and nothing is
+ * written. */
 struct sibukyaran_tree_numbers sibukyaran_giant_tree(uint32_t rotations, size_t baby_step, size_t giant_step,
                                                      size_t slots, const int64_t *giants, size_t giants_len,
                                                      uint32_t *leaves, size_t leaves_len, uint32_t *levels,
-                                                     size_t levels_len, uint32_t *pairs, size_t pairs_len);
+                                                     size_t levels_len, struct sibukyaran_pair_record *records,
+                                                     size_t records_len);
 
 /* The rotations of the tree's levels that have pairs; none per rotation. */
 struct sibukyaran_numbers sibukyaran_giant_key_rotations(uint32_t rotations, size_t baby_step, size_t giant_step,

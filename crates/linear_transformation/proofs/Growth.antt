@@ -2,9 +2,9 @@
 -- Assumes nothing.
 use Prim.Native.Nat.{ℕ, zero, suc, _*_, _≤_, _<_}
 use mathlib.Core.Path.{_≡_, refl, sym, ap, _∙_}
-use mathlib.Core.Bool.{Bool, false}
+use mathlib.Core.Bool.{Bool, true, false, true≢false}
 use mathlib.Core.List.{List, [], _∷_, _++_, map, map-map}
-use native.Mathlib.Nat.{suc-ne-zero}
+use native.Mathlib.Nat.{suc-ne-zero, not-suc-le-zero}
 use native.Mathlib.Omega.{arith}
 use borrow.Author.Tests.{lt-ltb, le-ltb}
 use lib.Dec.{ltb}
@@ -15,18 +15,22 @@ use Rattle.ring.specs.Vectors.{inFront, Behind}
 use Rattle.ring.specs.Answers.{answered}
 use Rattle.ring.specs.declared.Answer.the-variants as Got
 use Rattle.ring.specs.Refusals.{firstOf}
+use Rattle.ring.specs.Laws.Vectors.{length-inFront}
 use Rattle.ring.specs.Laws.Answers.{answered-refused}
 use Rattle.ring.specs.Laws.Refusals.{first-refused, first-later, onAccept-refused}
-use Rattle.linear_transformation.specs.declared.rotations.BsgsRotations.the-variants.{PowersOfTwo}
+use Rattle.linear_transformation.specs.declared.rotations.BsgsRotations.{BsgsRotations}
+use Rattle.linear_transformation.specs.declared.rotations.BsgsRotations.the-variants.{PerRotation, PowersOfTwo}
 use Rattle.linear_transformation.specs.declared.rotations.TreeAnswer.the-variants as Grown
+use Rattle.linear_transformation.specs.declared.records.PairRecord.{PairRecord}
 use Rattle.linear_transformation.specs.declared.digits.Digit.{Digit}
 use Rattle.linear_transformation.specs.Digits.{rotOf, digit, bitsOf, leaf}
-use Rattle.linear_transformation.specs.Trees.{digitsOf, leavesOf, Level, levelsOf, Tree, treeOf, levelWords, recordWords, treeKeys, treeSwitches}
+use Rattle.linear_transformation.specs.Trees.{digitsOf, leavesOf, Level, levelsOf, Tree, treeOf, levelWords, treeRecords, treeKeys, treeSwitches}
 use Rattle.linear_transformation.specs.Listed.{giantRefusals, listTree}
-use Rattle.linear_transformation.specs.Calls.{ListWritten, treeRoom, TreeLeft, NoneLeft, TreeWritten}
+use Rattle.linear_transformation.specs.Calls.{ListWritten, treeRoom, TreeLeft, TreeWritten}
 use Rattle.linear_transformation.specs.Steps.Trees.{GiantsJudged, leavesAt, Planted, heapLevels, heapSwitches, keysOf}
-use Rattle.linear_transformation.proofs.Writing.{words-length, switches-words, allWords}
-use Rattle.linear_transformation.proofs.Planting.{levels-are, switches-are, pair-words}
+use Rattle.linear_transformation.specs.Steps.Records.{heapRecords, bitsIn, pairsIn, recordsIn, RecordsAsked, ownKeys, TreeGrown}
+use Rattle.linear_transformation.proofs.Writing.{words-length}
+use Rattle.linear_transformation.proofs.Planting.{levels-are, switches-are, records-are}
 
 -- ---- refusals
 
@@ -46,8 +50,9 @@ pub record Sizes (slots step : ℕ) (gs : List ℤ) (heap : List Bool) (r count 
   pub levels-are : heapLevels slots step r heap r ≡ listTree slots step gs .levels
   pub leaves : length (listTree slots step gs .leaves) ≡ length gs
   pub levels : length (levelWords (listTree slots step gs .levels)) ≡ 2 * r
-  pub pairs-are : allWords r heap r ≡ recordWords (listTree slots step gs .levels)
-  pub pairs : length (recordWords (listTree slots step gs .levels)) ≡ 2 * count
+  pub records-are : heapRecords r heap ≡ treeRecords (listTree slots step gs)
+  pub positive : 1 ≤ r
+  pub small : r ≤ 16
 
 module _ {slots step : ℕ} {gs : List ℤ} {heap : List Bool} {r : ℕ} (p : Planted slots step gs heap r) where
   abbrev ds : List Digit
@@ -69,13 +74,15 @@ module _ {slots step : ℕ} {gs : List ℤ} {heap : List Bool} {r : ℕ} (p : Pl
   unfolding treeSwitches
   tree-switches = switches-are slots step r heap r ∙ ap (λ (ls : List Level). length (join (λ l. l .pairs) ls)) tree-levels
 
+  tree-records : heapRecords r heap ≡ treeRecords (listTree slots step gs)
+  tree-records = records-are slots step r heap ∙ ap (join (λ (l : Level). l .pairs)) tree-levels
+
   pub tree-keys : keysOf (heapLevels slots step r heap r) ≡ treeKeys (listTree slots step gs)
   unfolding treeKeys
   tree-keys = ap keysOf tree-levels
 
   pub sizes : {count : ℕ} → count ≡ heapSwitches r heap r → Sizes slots step gs heap r count
   sizes {count} e =
-      let w : allWords r heap r ≡ recordWords (listTree slots step gs .levels) = pair-words slots step r heap r ∙ ap recordWords tree-levels in
       record {
         bits = tree-bits;
         switches = e ∙ tree-switches;
@@ -83,45 +90,88 @@ module _ {slots step : ℕ} {gs : List ℤ} {heap : List Bool} {r : ℕ} (p : Pl
         levels-are = tree-levels;
         leaves = ap length (sym tree-leaves) ∙ length-map gs (λ z. leaf r (digit slots step (rotOf slots z)));
         levels = ap (λ (ls : List Level). length (levelWords ls)) (sym tree-levels) ∙ words-length slots step r heap r ∙ omega arith;
-        pairs-are = w;
-        pairs = ap length (sym w) ∙ switches-words r heap r ∙ ap (λ (x : ℕ). 2 * x) (sym e);
+        records-are = tree-records;
+        positive = p .positive;
+        small = p .small;
       }
+
+-- ---- what writing the records asks
+
+pub asked-refused : (e : ℕ) (heap : List Bool) (n : ℕ) → RecordsAsked (Grown.Refused e) heap n
+unfolding bitsIn pairsIn heapRecords
+asked-refused e heap n = record { count = refl; room = omega arith; start = λ h. absurd (not-suc-le-zero h) }
+
+pub asked-none : (heap : List Bool) (n : ℕ) → RecordsAsked Grown.NoTree heap n
+unfolding bitsIn pairsIn heapRecords
+asked-none heap n = record { count = refl; room = omega arith; start = λ h. absurd (not-suc-le-zero h) }
+
+module _ {slots step : ℕ} {gs : List ℤ} {heap : List Bool} {bits count : ℕ} (s : Sizes slots step gs heap bits count) where
+  sizes-count : count ≡ length (heapRecords bits heap)
+  unfolding treeSwitches
+  sizes-count = s .switches ∙ ap length (sym (s .records-are))
+
+  pub asked-is : (n : ℕ) → count ≤ n → RecordsAsked (Grown.Is bits count) heap n
+  unfolding bitsIn pairsIn
+  asked-is n l =
+      record {
+        count = sizes-count;
+        room = l;
+        start = λ _. record { low = s .small; inside = omega (arith, s .positive); seen = omega arith };
+      }
+
+-- a refused answer writes no records, nor does one without a tree
+pub refused-front : (e : ℕ) (heap : List Bool) (ps : List PairRecord) → inFront (recordsIn (Grown.Refused e) heap) ps ≡ ps
+unfolding bitsIn heapRecords inFront
+refused-front e heap ps = refl
+
+pub none-front : (heap : List Bool) (ps : List PairRecord) → inFront (recordsIn Grown.NoTree heap) ps ≡ ps
+unfolding bitsIn heapRecords inFront
+none-front heap ps = refl
 
 -- ---- the answers of the tree
 
-left-refused : (e : ℕ) (t : Tree) (ls vs ps : List ℕ) → (e ≡ 0 → ⊥) → TreeLeft e t ls ls vs vs ps ps (Grown.Refused e)
+left-refused : (e : ℕ) (t : Tree) (ls vs : List ℕ) (ps : List PairRecord) → (e ≡ 0 → ⊥) → TreeLeft e t ls ls vs vs ps ps (Grown.Refused e)
 left-refused zero t ls vs ps m = absurd (m refl)
-left-refused (suc e) t ls vs ps m = record { answer = refl; leaves-are = refl; levels-are = refl; pairs-are = refl }
+left-refused (suc e) t ls vs ps m = record { answer = refl; leaves-are = refl; levels-are = refl; records-are = refl }
 
-module _ {b g n : ℕ} {gs : List ℤ} {r : ℕ} (j : GiantsJudged b g n gs r) {ls vs ps : List ℕ} where
-  pub tree-wrong : (r ≡ 0 → ⊥) → TreeWritten (PowersOfTwo b g n) gs ls ls vs vs ps ps (Grown.Refused r)
-  tree-wrong m = rw (refused-first j (treeRoom (listTree n g gs) ls vs ps) m) (left-refused r (listTree n g gs) ls vs ps m)
+module _ {b g n : ℕ} {gs : List ℤ} {r : ℕ} (j : GiantsJudged b g n gs r) {ls vs : List ℕ} {room : ℕ} {heap : List Bool} where
+  -- a refused call
+  refused-by : (e : ℕ) → firstOf (giantRefusals (PowersOfTwo b g n) gs ++ treeRoom (listTree n g gs) ls vs room) ≡ e → (e ≡ 0 → ⊥) → TreeGrown (PowersOfTwo b g n) gs ls ls vs vs room heap (Grown.Refused e)
+  refused-by e q m =
+      record {
+        written = λ ps l. rw (l, q, refused-front e heap ps) (left-refused e (listTree n g gs) ls vs ps m);
+        asked = asked-refused e heap room;
+        leaves-len = refl;
+        levels-len = refl;
+      }
 
-  too-small : firstOf (giantRefusals (PowersOfTwo b g n) gs ++ treeRoom (listTree n g gs) ls vs ps) ≡ 12 → TreeWritten (PowersOfTwo b g n) gs ls ls vs vs ps ps (Grown.Refused 12)
-  too-small e = rw e (record { answer = refl; leaves-are = refl; levels-are = refl; pairs-are = refl })
+  pub tree-wrong : (r ≡ 0 → ⊥) → TreeGrown (PowersOfTwo b g n) gs ls ls vs vs room heap (Grown.Refused r)
+  tree-wrong m = refused-by r (refused-first j (treeRoom (listTree n g gs) ls vs room) m) m
 
-  module _ (e : r ≡ 0) {heap : List Bool} {bits count : ℕ} (s : Sizes n g gs heap bits count) where
-    pub leaves-small : length ls < length gs → TreeWritten (PowersOfTwo b g n) gs ls ls vs vs ps ps (Grown.Refused 12)
-    leaves-small l = too-small (refused-later j (treeRoom (listTree n g gs) ls vs ps) e ∙ rw (s .leaves, lt-ltb _ _ l))
+  module _ (e : r ≡ 0) {bits count : ℕ} (s : Sizes n g gs heap bits count) where
+    pub leaves-small : length ls < length gs → TreeGrown (PowersOfTwo b g n) gs ls ls vs vs room heap (Grown.Refused 12)
+    leaves-small l = refused-by 12 (refused-later j (treeRoom (listTree n g gs) ls vs room) e ∙ (rw (s .leaves, lt-ltb _ _ l))) (suc-ne-zero 11)
 
-    pub levels-small : length gs ≤ length ls → length vs < 2 * bits → TreeWritten (PowersOfTwo b g n) gs ls ls vs vs ps ps (Grown.Refused 12)
-    levels-small k l = too-small (refused-later j (treeRoom (listTree n g gs) ls vs ps) e ∙ rw (s .leaves, s .levels, le-ltb _ _ k, lt-ltb _ _ l))
+    pub levels-small : length gs ≤ length ls → length vs < 2 * bits → TreeGrown (PowersOfTwo b g n) gs ls ls vs vs room heap (Grown.Refused 12)
+    levels-small k l = refused-by 12 (refused-later j (treeRoom (listTree n g gs) ls vs room) e ∙ (rw (s .leaves, s .levels, le-ltb _ _ k, lt-ltb _ _ l))) (suc-ne-zero 11)
 
-    pub pairs-small : length gs ≤ length ls → 2 * bits ≤ length vs → length ps < 2 * count → TreeWritten (PowersOfTwo b g n) gs ls ls vs vs ps ps (Grown.Refused 12)
-    pairs-small k m l = too-small (refused-later j (treeRoom (listTree n g gs) ls vs ps) e ∙ rw (s .leaves, s .levels, s .pairs, le-ltb _ _ k, le-ltb _ _ m, lt-ltb _ _ l))
+    pub pairs-small : length gs ≤ length ls → 2 * bits ≤ length vs → room < count → TreeGrown (PowersOfTwo b g n) gs ls ls vs vs room heap (Grown.Refused 12)
+    pairs-small k m l = refused-by 12 (refused-later j (treeRoom (listTree n g gs) ls vs room) e ∙ (rw (s .leaves, s .levels, ← s .switches, le-ltb _ _ k, le-ltb _ _ m, lt-ltb _ _ l))) (suc-ne-zero 11)
 
-    pub tree-grown : {ls' vs' ps' : List ℕ} → length gs ≤ length ls → 2 * bits ≤ length vs → 2 * count ≤ length ps
-        → ls' ≡ inFront (leavesAt n g bits gs) ls → vs' ≡ inFront (levelWords (heapLevels n g bits heap bits)) vs → ps' ≡ inFront (allWords bits heap bits) ps
-        → TreeWritten (PowersOfTwo b g n) gs ls ls' vs vs' ps ps' (Grown.Is bits count)
-    tree-grown k m l x y z =
-        let q : firstOf (giantRefusals (PowersOfTwo b g n) gs ++ treeRoom (listTree n g gs) ls vs ps) ≡ 0 = refused-later j (treeRoom (listTree n g gs) ls vs ps) e ∙ rw (s .leaves, s .levels, s .pairs, le-ltb _ _ k, le-ltb _ _ m, le-ltb _ _ l) in
-        rw q
-        (record {
-          answer = rw (s .bits, s .switches) refl;
-          leaves-are = x ∙ ap (λ (w : List ℕ). inFront w ls) (s .leaves-are);
-          levels-are = y ∙ ap (λ (w : List Level). inFront (levelWords w) vs) (s .levels-are);
-          pairs-are = z ∙ ap (λ (w : List ℕ). inFront w ps) (s .pairs-are);
-        })
+    pub tree-grown : {ls' vs' : List ℕ} → length gs ≤ length ls → 2 * bits ≤ length vs → count ≤ room
+        → ls' ≡ inFront (leavesAt n g bits gs) ls → vs' ≡ inFront (levelWords (heapLevels n g bits heap bits)) vs
+        → TreeGrown (PowersOfTwo b g n) gs ls ls' vs vs' room heap (Grown.Is bits count)
+    unfolding bitsIn
+    tree-grown k m l x y =
+        let q : firstOf (giantRefusals (PowersOfTwo b g n) gs ++ treeRoom (listTree n g gs) ls vs room) ≡ 0 = refused-later j (treeRoom (listTree n g gs) ls vs room) e ∙ (rw (s .leaves, s .levels, ← s .switches, le-ltb _ _ k, le-ltb _ _ m, le-ltb _ _ l)) in
+        let x' = x ∙ ap (λ (w : List ℕ). inFront w ls) (s .leaves-are) in
+        let y' = y ∙ ap (λ (w : List Level). inFront (levelWords w) vs) (s .levels-are) in
+        record {
+          written = λ ps z. rw (z, q) (record { answer = rw (s .bits, s .switches) refl; leaves-are = x'; levels-are = y'; records-are = ap (λ (w : List PairRecord). inFront w ps) (s .records-are) });
+          asked = asked-is s room l;
+          leaves-len = ap length x' ∙ length-inFront _ ls (omega (arith, s .leaves));
+          levels-len = ap length y' ∙ length-inFront _ vs (omega (arith, s .levels));
+        }
 
 -- ---- keys
 
@@ -154,8 +204,16 @@ module _ {b g n : ℕ} {gs : List ℤ} {r : ℕ} (j : GiantsJudged b g n gs r) w
   pub switches-right : r ≡ 0 → {heap : List Bool} {bits count : ℕ} → Planted n g gs heap bits → count ≡ heapSwitches bits heap bits → Got.Is count ≡ answered (firstOf (giantRefusals (PowersOfTwo b g n) gs)) (treeSwitches (listTree n g gs))
   switches-right e p k = rw (← j .answer, e, k, tree-switches p) refl
 
-pub none-left : {ls vs ps : List ℕ} → NoneLeft ls ls vs vs ps ps Grown.NoTree
-none-left = record { answer = refl; leaves-are = refl; levels-are = refl; pairs-are = refl }
+-- ---- per rotation
+
+pub no-tree : {gs : List ℤ} {ls vs : List ℕ} {room : ℕ} {heap : List Bool} → TreeGrown PerRotation gs ls ls vs vs room heap Grown.NoTree
+no-tree {heap = heap} = record { written = λ ps l. record { answer = refl; leaves-are = refl; levels-are = refl; records-are = none-front heap ps }; asked = asked-none heap _; leaves-len = refl; levels-len = refl }
+
+-- where each rotation has its own key, nothing is written
+pub own-written : (rotations : BsgsRotations) (gs : List ℤ) (ls vs : List ℕ) (ps : List PairRecord) → ownKeys rotations ≡ true → TreeWritten rotations gs ls ls vs vs ps ps Grown.NoTree
+unfolding ownKeys
+own-written PerRotation gs ls vs ps e = record { answer = refl; leaves-are = refl; levels-are = refl; records-are = refl }
+own-written (PowersOfTwo b g n) gs ls vs ps e = absurd (true≢false (sym e))
 
 pub no-keys : {old : List ℕ} → ListWritten [] [] old old (Got.Is 0)
 unfolding inFront

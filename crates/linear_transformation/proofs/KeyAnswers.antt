@@ -220,9 +220,6 @@ module _ {slots width : ℕ} {ds : List ℕ} (z : Sizable slots width ds) {seen 
     power-short l = list-short (planKeys slots (BsgsPowersOfTwo width) ds) old power-length l
 
     module _ (l : passes + levels ≤ length old) where
-      pub tops-asked : length (topsOf (below (marks seen) n) 16) ≤ length old
-      tops-asked = omega (arith, c)
-
       module _ {mid : List ℕ} (u : mid ≡ inFront turns old) where
         front-kept : take passes mid ≡ turns
         unfolding inFront

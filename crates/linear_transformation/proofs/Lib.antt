@@ -13,8 +13,11 @@ pub mod Heaps
 pub mod Writing
 pub mod Listings
 pub mod Planting
+pub mod Recording
 pub mod Growth
 pub mod Keyings
 pub mod KeyAnswers
 pub mod Storings
 pub mod Missings
+pub mod Again
+pub mod LocalHeap

@@ -24,15 +24,18 @@ use Rattle.ring.specs.Laws.Searches.{both, first, second}
 use Rattle.ring.specs.Laws.Members.{some-append, one-of, left, right, among-left, among-right, among-split, among-some, below-among, each-among}
 use Rattle.linear_transformation.specs.declared.LinearTransformationStrategy.{LinearTransformationStrategy}
 use Rattle.linear_transformation.specs.declared.LinearTransformationStrategy.the-variants.{Bsgs, BsgsPowersOfTwo, Direct}
+use Rattle.linear_transformation.specs.declared.stored.NeedsAnswer.{NeedsAnswer}
 use Rattle.linear_transformation.specs.declared.stored.NeedsAnswer.the-variants as Needed
 use Rattle.linear_transformation.specs.Plans.{babyOf, giantOf, babies, giants, widthOf}
 use Rattle.linear_transformation.specs.Closures.{nonzeros}
 use Rattle.linear_transformation.specs.Schedules.{planBabies, keysPerRotation, planKeys, giantSwitches, planSwitches}
 use Rattle.linear_transformation.specs.Calls.{ListWritten}
-use Rattle.linear_transformation.specs.Stored.{isMissing, pairCount, stepOf, needsRefusal, planNeeds}
+use Rattle.linear_transformation.specs.Stored.{isMissing, pairCount, stepOf, bitsFor, needsRefusal, planNeeds}
 use Rattle.linear_transformation.specs.Steps.Plans.{Diagonals, StepIs}
-use Rattle.linear_transformation.specs.Steps.Keys.{Sizable, Accepted, Switches, BabySwitches}
-use Rattle.linear_transformation.specs.Steps.Stored.{StoredJudged, HeldMarked, turnLacked, Lacking, Listed, PairsAre}
+use Rattle.linear_transformation.specs.Steps.Keys.{Sizable, Accepted, Switches, BabySwitches, giantsOf}
+use Rattle.linear_transformation.specs.Steps.Trees.{Planted, heapSwitches}
+use Rattle.linear_transformation.specs.Trees.{Tree}
+use Rattle.linear_transformation.specs.Steps.Stored.{StoredJudged, HeldMarked, turnLacked, Lacking, Listed, PairsAre, keysRefusal, turnsEach}
 use Rattle.linear_transformation.specs.Laws.Plans.{baby-le, giant-le, babies-have, giants-have}
 use Rattle.linear_transformation.specs.Laws.Runs.{some-member, giants-bound, babies-bound, planned-bound}
 use Rattle.linear_transformation.specs.Laws.CommonDivisors.{babyStep-bound}
@@ -42,6 +45,8 @@ use Rattle.linear_transformation.proofs.Writings.{mark-more}
 use Rattle.linear_transformation.proofs.BabyChecks.{some-here, Clear, clear-none, clear-more, clear-done}
 use Rattle.linear_transformation.proofs.Plannings.{diagonal-low}
 use Rattle.linear_transformation.proofs.Storings.{stored-first, stored-later}
+use Rattle.linear_transformation.proofs.Growth.{sizes}
+use Rattle.linear_transformation.proofs.KeyAnswers.{plan-tree}
 
 -- ---- the held list
 
@@ -261,17 +266,30 @@ module _ {slots width : ℕ} {ds : List ℕ} (z : Sizable slots width ds) {old n
 
 -- ---- by the strategy
 
-module _ (slots : ℕ) (ds : List ℕ) {s : LinearTransformationStrategy} {seen : List Bool} {r : Bool} where
-  pub lacks-width : {w : ℕ} → s ≡ Bsgs w → Sizable slots w ds → Lacking (keysPerRotation (babies 65536 w ds) (giants 65536 w ds)) seen r → Lacking (planKeys slots s ds) seen r
-  unfolding planKeys
-  lacks-width e z m = rw (e, ← babies-bound (z .planned) 65536 (z .slots-in .high) (z .slots-in .low), ← giants-bound (z .planned) 65536 (z .slots-in .high)) m
+-- where no rotation has its own key
+powers-of : (s : LinearTransformationStrategy) → turnsEach s ≡ false → s ≡ BsgsPowersOfTwo (widthOf s)
+unfolding turnsEach
+powers-of (Bsgs w) e = absurd (true≢false e)
+powers-of (BsgsPowersOfTwo w) e = refl
+powers-of Direct e = absurd (true≢false e)
 
-  pub lacks-powers : {w : ℕ} → s ≡ BsgsPowersOfTwo w → Lacking (planKeys slots (BsgsPowersOfTwo w) ds) seen r → Lacking (planKeys slots s ds) seen r
-  lacks-powers e m = rw e m
+-- where each has
+each-keys : (slots : ℕ) (s : LinearTransformationStrategy) (ds : List ℕ) → turnsEach s ≡ true → planKeys slots s ds ≡ keysPerRotation (babies slots (widthOf s) ds) (giants slots (widthOf s) ds)
+unfolding turnsEach planKeys
+each-keys slots (Bsgs w) ds e = refl
+each-keys slots (BsgsPowersOfTwo w) ds e = absurd (true≢false (sym e))
+each-keys slots Direct ds e = refl
 
-  pub lacks-direct : s ≡ Direct → Sizable slots 1 ds → Lacking (keysPerRotation (babies 65536 1 ds) (giants 65536 1 ds)) seen r → Lacking (planKeys slots s ds) seen r
-  unfolding planKeys
-  lacks-direct e z m = rw (e, ← babies-bound (z .planned) 65536 (z .slots-in .high) (z .slots-in .low), ← giants-bound (z .planned) 65536 (z .slots-in .high)) m
+module _ (s : LinearTransformationStrategy) {w : ℕ} (n : w ≡ widthOf s) where
+  pub powers-named : turnsEach s ≡ false → s ≡ BsgsPowersOfTwo w
+  powers-named e = powers-of s e ∙ sym (ap BsgsPowersOfTwo n)
+
+  module _ {slots : ℕ} {ds : List ℕ} (a : Accepted slots s ds) {seen : List Bool} {r : Bool} where
+    pub lacks-each : turnsEach s ≡ true → Lacking (keysPerRotation (babies 65536 w ds) (giants 65536 w ds)) seen r → Lacking (planKeys slots s ds) seen r
+    lacks-each e m = rw (each-keys slots s ds e, ← babies-bound (a .planned) 65536 (a .slots-in .high) (a .slots-in .low), ← giants-bound (a .planned) 65536 (a .slots-in .high), ← n) m
+
+    pub lacks-powers : turnsEach s ≡ false → Lacking (planKeys slots (BsgsPowersOfTwo w) ds) seen r → Lacking (planKeys slots s ds) seen r
+    lacks-powers e m = rw (sym (powers-named e)) at m
 
 -- ---- the numbers of a plan
 
@@ -287,6 +305,18 @@ module _ {s : LinearTransformationStrategy} {n : ℕ} where
   pub pairs-direct : s ≡ Direct → PairsAre s n 0
   unfolding pairCount
   pairs-direct e = rw e (record { are = λ slots ks h. refl })
+
+-- per rotation there is no b
+pub no-bits : (slots : ℕ) (s : LinearTransformationStrategy) (ds : List ℕ) → turnsEach s ≡ true → 0 ≡ bitsFor slots s ds
+unfolding turnsEach bitsFor
+no-bits slots (Bsgs w) ds e = refl
+no-bits slots (BsgsPowersOfTwo w) ds e = absurd (true≢false (sym e))
+no-bits slots Direct ds e = refl
+
+-- b of the planted tree
+pub bits-planted : {slots width : ℕ} {ds : List ℕ} {s : LinearTransformationStrategy} {heap : List Bool} {bits count : ℕ} → s ≡ BsgsPowersOfTwo width → Sizable slots width ds → Planted slots width (giantsOf width ds) heap bits → count ≡ heapSwitches bits heap bits → bits ≡ bitsFor slots s ds
+unfolding bitsFor
+bits-planted e z p c = rw e (sizes p c .bits ∙ ap (λ (t : Tree). t .bits) (plan-tree z))
 
 module _ (ds : List ℕ) {s : LinearTransformationStrategy} where
   pub step-width : {w : ℕ} → s ≡ Bsgs w → 0 ≡ stepOf 65536 s ds
@@ -311,15 +341,15 @@ module _ {slots : ℕ} {s : LinearTransformationStrategy} {ds : List ℕ} (a : A
   pub wide-accepted : Accepted 65536 s ds
   wide-accepted = record { slots-in = record { low = omega arith; high = omega arith }; width-in = a .width-in; planned = planned-bound (a .planned) 65536 (a .slots-in .high) }
 
-  pub needs-are : {made turns width count pairs step : ℕ} → BabySwitches slots s ds made → Switches slots s ds turns → width ≡ widthOf s → count ≡ length (giants 65536 width ds) → PairsAre s turns pairs → step ≡ stepOf 65536 s ds
-      → Needed.Is (made + 1) count pairs (made + turns) step ≡ planNeeds 0 slots s ds
+  pub needs-are : {made turns width count pairs step bits : ℕ} → BabySwitches slots s ds made → Switches slots s ds turns → width ≡ widthOf s → count ≡ length (giants 65536 width ds) → PairsAre s turns pairs → step ≡ stepOf 65536 s ds → bits ≡ bitsFor slots s ds
+      → Needed.Is (made + 1) count pairs (made + turns) step bits ≡ planNeeds 0 slots s ds
   unfolding planNeeds planSwitches
-  needs-are {made} {turns} {width} {count} {pairs} {step} b t w c p q =
+  needs-are {made} {turns} {width} {count} {pairs} {step} b t w c p q o =
       let x : made + 1 ≡ length (planBabies slots s ds) = omega (arith, b .are, babies-switched slots ds (a .slots-in .low) s) in
       let y : count ≡ length (giants slots (widthOf s) ds) = c ∙ ap (λ (v : ℕ). length (giants 65536 v ds)) w ∙ ap length (giants-bound (a .planned) 65536 (a .slots-in .high)) in
       let k : pairs ≡ pairCount slots s ds = p .are slots ds (t .are) in
       let e : step ≡ stepOf slots s ds = q ∙ step-bound s a in
-      rw (x, y, k, e, b .are, t .are) refl
+      rw (x, y, k, e, o, b .are, t .are) refl
 
 -- ---- the call
 
@@ -328,12 +358,16 @@ unfolding planNeeds
 refused-by zero slots s ks n = absurd (n refl)
 refused-by (suc e) slots s ks n = refl
 
+module _ (slots : ℕ) (s : LinearTransformationStrategy) (ks : List ℕ) {held : List ℕ} {seen : List Bool} {b : Bool} (m : HeldMarked held seen) (l : Lacking (planKeys slots s ks) seen b) where
+  pub keys-missing : b ≡ true → Needed.Refused 11 ≡ planNeeds (keysRefusal slots s ks held) slots s ks
+  keys-missing h = rw (sym (l .are held m) ∙ h) (refused-by 11 slots s ks (suc-ne-zero 10))
+
+  pub keys-held : {a : NeedsAnswer} → b ≡ false → a ≡ planNeeds 0 slots s ks → a ≡ planNeeds (keysRefusal slots s ks held) slots s ks
+  keys-held h q = rw (sym (l .are held m) ∙ h) q
+
 module _ {slots : ℕ} {s : LinearTransformationStrategy} {ks : List ℕ} {r : ℕ} (j : StoredJudged slots s ks r) (held : List ℕ) where
   pub needs-refused : (r ≡ 0 → ⊥) → Needed.Refused r ≡ planNeeds (needsRefusal slots s ks held) slots s ks
   needs-refused n = rw (stored-first j ((isMissing held (planKeys slots s ks), 11) ∷ []) n) (refused-by r slots s ks n)
 
-  pub needs-missing : r ≡ 0 → isMissing held (planKeys slots s ks) ≡ true → Needed.Refused 11 ≡ planNeeds (needsRefusal slots s ks held) slots s ks
-  needs-missing e h = rw (stored-later j ((isMissing held (planKeys slots s ks), 11) ∷ []) e, h) (refused-by 11 slots s ks (suc-ne-zero 10))
-
-  pub needs-told : r ≡ 0 → isMissing held (planKeys slots s ks) ≡ false → planNeeds 0 slots s ks ≡ planNeeds (needsRefusal slots s ks held) slots s ks
-  needs-told e h = rw (stored-later j ((isMissing held (planKeys slots s ks), 11) ∷ []) e, h)
+  pub needs-told : {a : NeedsAnswer} → r ≡ 0 → a ≡ planNeeds (keysRefusal slots s ks held) slots s ks → a ≡ planNeeds (needsRefusal slots s ks held) slots s ks
+  needs-told e q = rw (stored-later j ((isMissing held (planKeys slots s ks), 11) ∷ []) e) q

@@ -3,7 +3,7 @@
 use Prim.Native.Nat.{ℕ, zero, suc, _+_, _*_, _-_, _^_, _≤_, _<_}
 use mathlib.Core.Path.{_≡_, refl, sym, ap, ap₂, _∙_}
 use mathlib.Core.Bool.{Bool, true, false}
-use mathlib.Core.List.{List, [], _∷_, _++_, map, map-map, map-append}
+use mathlib.Core.List.{List, _++_, map, map-map, map-append}
 use native.Mathlib.Nat.{sub-zero}
 use native.Mathlib.Omega.{arith}
 use lib.Pow.{pow-pos, pow-mono}
@@ -16,8 +16,10 @@ use Rattle.ring.specs.Vectors.{tabulate}
 use Rattle.ring.specs.Laws.Lists.{join-map}
 use Rattle.ring.specs.Laws.Vectors.{tabulate-cong, map-tabulate}
 use Rattle.linear_transformation.specs.Digits.{rotOf, digit, bitsOf, leaf, levelRotation}
-use Rattle.linear_transformation.specs.Trees.{digitsOf, leavesOf, there, Pair, Level, pairsAt, levelsOf, flag, recordWords}
-use Rattle.linear_transformation.specs.Steps.Trees.{LargestIs, BitsAre, leavesAt, Blank, LeavesMarked, Climbed, Climbing, Heaped, Planted, oddAt, pairAt, heapPairs, levelPairs, heapLevel, heapLevels, heapSwitches, wordsOf}
+use Rattle.linear_transformation.specs.declared.records.PairRecord.{PairRecord}
+use Rattle.linear_transformation.specs.Trees.{digitsOf, leavesOf, there, Level, pairsAt, levelsOf}
+use Rattle.linear_transformation.specs.Steps.Trees.{LargestIs, BitsAre, leavesAt, Blank, LeavesMarked, Climbed, Climbing, Heaped, Planted, oddAt, pairAt, heapPairs, levelPairs, heapLevel, heapLevels, heapSwitches}
+use Rattle.linear_transformation.specs.Steps.Records.{heapRecords}
 use Rattle.linear_transformation.proofs.Writings.{no-marks}
 use Rattle.linear_transformation.specs.Laws.Trees.{there-zero, there-half, level-places, odds, odds-more, withEven, pairs-odds}
 
@@ -84,15 +86,15 @@ module _ {b : ℕ} {leaves : List ℕ} {heap : List Bool} (h : Heaped b leaves h
 
   pub levels-are : (slots step : ℕ) → heapLevels slots step b heap b ≡ levelsOf slots step b leaves
   unfolding heapLevels levelsOf
-  levels-are slots step = tabulate-cong b (heapLevel slots step b heap) (λ i. record { rotation = levelRotation slots step b i; pairs = pairsAt b leaves i }) (λ i l. ap (λ (ps : List Pair). record { rotation = levelRotation slots step b i; pairs = ps }) (pairs-are i l))
+  levels-are slots step = tabulate-cong b (heapLevel slots step b heap) (λ i. record { rotation = levelRotation slots step b i; pairs = pairsAt b leaves i }) (λ i l. ap (λ (ps : List PairRecord). record { rotation = levelRotation slots step b i; pairs = ps }) (pairs-are i l))
 
 -- ---- what the heap's levels give
+
+pub records-are : (slots step b : ℕ) (heap : List Bool) → heapRecords b heap ≡ join (λ l. l .pairs) (heapLevels slots step b heap b)
+unfolding heapRecords heapLevels
+records-are slots step b heap = sym (ap (join (λ (l : Level). l .pairs)) (sym (map-tabulate (heapLevel slots step b heap) b (λ i. i))) ∙ join-map (heapLevel slots step b heap) (λ l. l .pairs) (tabulate b (λ i. i)))
 
 module _ (slots step b : ℕ) (heap : List Bool) (n : ℕ) where
   pub switches-are : heapSwitches b heap n ≡ length (join (λ l. l .pairs) (heapLevels slots step b heap n))
   unfolding heapSwitches heapLevels
   switches-are = sym (ap (λ (ls : List Level). length (join (λ l. l .pairs) ls)) (sym (map-tabulate (heapLevel slots step b heap) n (λ i. i))) ∙ ap length (join-map (heapLevel slots step b heap) (λ l. l .pairs) (tabulate n (λ i. i))))
-
-  pub pair-words : join (λ i. wordsOf (levelPairs heap b i)) (tabulate n (λ i. i)) ≡ recordWords (heapLevels slots step b heap n)
-  unfolding heapLevels
-  pair-words = sym (ap recordWords (sym (map-tabulate (heapLevel slots step b heap) n (λ i. i))) ∙ join-map (heapLevel slots step b heap) (λ l. join (λ p. p .odd ∷ flag (p .even-there) ∷ []) (l .pairs)) (tabulate n (λ i. i)))

@@ -1,8 +1,8 @@
 -- The calls about stored offsets: the walk that tests them, refusals, plans and trees.
 -- Assumes nothing.
-use Prim.Native.Nat.{ℕ, zero, suc, _+_, _*_, _≤_, _<_, zero-le}
+use Prim.Native.Nat.{ℕ, zero, suc, _+_, _-_, _≤_, _<_, min}
 use mathlib.Core.Path.{_≡_, refl, sym, ap, _∙_}
-use mathlib.Core.Bool.{Bool, true, false}
+use mathlib.Core.Bool.{Bool, true, false, true≢false}
 use mathlib.Core.List.{List, [], _∷_, _++_}
 use mathlib.Core.Logic.{⊎-elim}
 use native.Mathlib.Nat.{suc-ne-zero, not-suc-le-zero, eq-or-lt-of-le}
@@ -10,30 +10,32 @@ use native.Mathlib.Numerals.{add-one}
 use native.Mathlib.Omega.{arith}
 use borrow.Author.Tests.{le-leb, lt-leb, lt-ltb, le-ltb}
 use lib.Dec.{ltb}
-use lib.ListN.{length, getD}
+use lib.ListN.{length, getD, take, drop, length-drop, drop-of-length-le}
+use lib.Seq.{take-all, take-nil}
 use Rattle.ring.specs.Vectors.{inFront}
 use Rattle.ring.specs.Refusals.{firstOf, outside}
-use Rattle.ring.specs.Laws.Searches.{both, every-all, every-fails}
+use Rattle.ring.specs.Laws.Searches.{both, every-all, every-fails, lt-or-ge}
 use Rattle.ring.specs.Laws.Refusals.{first-refused, first-later}
 use Rattle.linear_transformation.specs.declared.LinearTransformationStrategy.{LinearTransformationStrategy}
 use Rattle.linear_transformation.specs.declared.LinearTransformationStrategy.the-variants.{Bsgs, BsgsPowersOfTwo, Direct}
 use Rattle.linear_transformation.specs.declared.plan.PlanAnswer.{PlanAnswer}
 use Rattle.linear_transformation.specs.declared.plan.PlanAnswer.the-variants as Planned
+use Rattle.linear_transformation.specs.declared.records.PairRecord.{PairRecord}
 use Rattle.linear_transformation.specs.declared.rotations.TreeAnswer.{TreeAnswer}
 use Rattle.linear_transformation.specs.declared.rotations.TreeAnswer.the-variants as Grown
 use Rattle.linear_transformation.specs.Strategies.{widthOutside}
 use Rattle.linear_transformation.specs.Plans.{widthOf}
-use Rattle.linear_transformation.specs.Trees.{Tree, Level, levelWords, recordWords}
-use Rattle.linear_transformation.specs.Schedules.{planBabies, planWords}
-use Rattle.linear_transformation.specs.Stored.{leastAt, offsetFits, offsetsRise, storedRefusals, planRecords, planLevels, storedPlanRefusal, StoredPlanWritten, storedTreeRoom, storedTreeAnswered, StoredTreeLeft, StoredTreeWritten}
+use Rattle.linear_transformation.specs.Trees.{Tree, treeRecords, treeSwitches}
+use Rattle.linear_transformation.specs.Schedules.{planBabies, planWords, planTree}
+use Rattle.linear_transformation.specs.Stored.{leastAt, offsetFits, offsetsRise, storedRefusals, pairCount, storedPlanRefusal, StoredPlanWritten, RecordsLeft, PlanRecordsWritten}
 use Rattle.linear_transformation.specs.Steps.Plans.{WordsWritten}
-use Rattle.linear_transformation.specs.Steps.Trees.{Planted, heapLevels, heapSwitches}
+use Rattle.linear_transformation.specs.Steps.Trees.{Planted, heapSwitches}
 use Rattle.linear_transformation.specs.Steps.Keys.{Sizable, giantsOf}
-use Rattle.linear_transformation.specs.Steps.Stored.{StoredJudged}
+use Rattle.linear_transformation.specs.Steps.Stored.{StoredJudged, turnsEach, TreePlanted, PlanGrown}
+use Rattle.linear_transformation.specs.Steps.Records.{bitsIn}
 use Rattle.linear_transformation.specs.Laws.Plans.{width-positive}
 use Rattle.linear_transformation.specs.Laws.Stored.{rise-distinct}
-use Rattle.linear_transformation.proofs.Writing.{allWords}
-use Rattle.linear_transformation.proofs.Growth.{sizes}
+use Rattle.linear_transformation.proofs.Growth.{sizes, asked-refused, asked-none, asked-is, refused-front, none-front}
 use Rattle.linear_transformation.proofs.PlanAnswers.{in-range}
 use Rattle.linear_transformation.proofs.KeyAnswers.{plan-tree}
 
@@ -118,65 +120,71 @@ module _ {slots : ℕ} {s : LinearTransformationStrategy} {ks : List ℕ} {r : �
       let q : storedPlanRefusal slots s ks old ≡ firstOf ((ltb (length old) (length (planWords slots s ks)), 12) ∷ []) = stored-later j ((ltb (length old) (length (planWords slots s ks)), 12) ∷ []) e in
       record { answer = rw q (w .answer); words = rw q (w .words) }
 
--- ---- trees
+-- ---- the records of a plan's tree
 
-left-refused : (e slots : ℕ) (s : LinearTransformationStrategy) (ks vs ps : List ℕ) → (e ≡ 0 → ⊥) → StoredTreeLeft e slots s ks vs vs ps ps (Grown.Refused e)
-unfolding storedTreeAnswered
-left-refused zero slots s ks vs ps n = absurd (n refl)
-left-refused (suc e) slots s ks vs ps n = record { answer = refl; levels-are = refl; records-are = refl }
-
-module _ {slots : ℕ} {s : LinearTransformationStrategy} {ks : List ℕ} {r : ℕ} (j : StoredJudged slots s ks r) {vs ps : List ℕ} where
-  pub stored-tree-refused : (r ≡ 0 → ⊥) → StoredTreeWritten slots s ks vs vs ps ps (Grown.Refused r)
-  stored-tree-refused n = rw (stored-first j (storedTreeRoom slots s ks vs ps) n) (left-refused r slots s ks vs ps n)
-
-  pub stored-tree-written : {vs' ps' : List ℕ} {a : TreeAnswer} → r ≡ 0 → StoredTreeLeft (firstOf (storedTreeRoom slots s ks vs ps)) slots s ks vs vs' ps ps' a → StoredTreeWritten slots s ks vs vs' ps ps' a
-  stored-tree-written e w = rw (stored-later j (storedTreeRoom slots s ks vs ps) e) w
-
--- per rotation
-module _ {slots : ℕ} {s : LinearTransformationStrategy} {ks vs ps : List ℕ} where
-  pub no-tree-width : {w : ℕ} → s ≡ Bsgs w → StoredTreeLeft (firstOf (storedTreeRoom slots s ks vs ps)) slots s ks vs vs ps ps Grown.NoTree
-  unfolding planLevels planRecords storedTreeAnswered inFront
-  no-tree-width e = rw (e, le-ltb (length vs) 0 zero-le, le-ltb (length ps) 0 zero-le) (record { answer = refl; levels-are = refl; records-are = refl })
-
-  pub no-tree-direct : s ≡ Direct → StoredTreeLeft (firstOf (storedTreeRoom slots s ks vs ps)) slots s ks vs vs ps ps Grown.NoTree
-  unfolding planLevels planRecords storedTreeAnswered inFront
-  no-tree-direct e = rw (e, le-ltb (length vs) 0 zero-le, le-ltb (length ps) 0 zero-le) (record { answer = refl; levels-are = refl; records-are = refl })
-
-  pub tree-powers : {w : ℕ} {vs' ps' : List ℕ} {a : TreeAnswer} → s ≡ BsgsPowersOfTwo w → StoredTreeLeft (firstOf (storedTreeRoom slots (BsgsPowersOfTwo w) ks vs ps)) slots (BsgsPowersOfTwo w) ks vs vs' ps ps' a → StoredTreeLeft (firstOf (storedTreeRoom slots s ks vs ps)) slots s ks vs vs' ps ps' a
-  tree-powers e w = rw e w
-
--- with powers of two
-abbrev pub codeOf : ℕ → ℕ → List ℕ → List ℕ → List ℕ → ℕ
-codeOf slots width ds vs ps = firstOf (storedTreeRoom slots (BsgsPowersOfTwo width) ds vs ps)
-
-too-small : (slots width : ℕ) (ds vs ps : List ℕ) → codeOf slots width ds vs ps ≡ 12 → StoredTreeLeft (codeOf slots width ds vs ps) slots (BsgsPowersOfTwo width) ds vs vs ps ps (Grown.Refused 12)
-too-small slots width ds vs ps e = rw e (left-refused 12 slots (BsgsPowersOfTwo width) ds vs ps (suc-ne-zero 11))
+left-none : (e : ℕ) (t : Tree) (ps : List PairRecord) → (e ≡ 0 → ⊥) → RecordsLeft e t ps ps (Grown.Refused e)
+left-none zero t ps n = absurd (n refl)
+left-none (suc e) t ps n = record { answer = refl; records-are = refl }
 
 module _ {slots width : ℕ} {ds : List ℕ} (z : Sizable slots width ds) {heap : List Bool} {bits count : ℕ} (p : Planted slots width (giantsOf width ds) heap bits) (c : count ≡ heapSwitches bits heap bits) where
-  levels-room : length (planLevels slots (BsgsPowersOfTwo width) ds) ≡ 2 * bits
-  unfolding planLevels
-  levels-room = ap (λ (x : Tree). length (levelWords (x .levels))) (sym (plan-tree z)) ∙ sizes p c .levels
+  count-is : count ≡ pairCount slots (BsgsPowersOfTwo width) ds
+  unfolding pairCount
+  count-is = sizes p c .switches ∙ ap treeSwitches (plan-tree z)
 
-  records-room : length (planRecords slots (BsgsPowersOfTwo width) ds) ≡ 2 * count
-  unfolding planRecords
-  records-room = ap (λ (x : Tree). length (recordWords (x .levels))) (sym (plan-tree z)) ∙ sizes p c .pairs
+  pub room-short : {room : ℕ} → room < count → TreePlanted slots width ds room heap (Grown.Refused 12)
+  room-short {room} l =
+      record {
+        written = λ ps e. rw (e, ← count-is, lt-ltb _ _ l, refused-front 12 heap ps) (left-none 12 (planTree slots width ds) ps (suc-ne-zero 11));
+        asked = asked-refused 12 heap room;
+      }
 
-  module _ {vs ps : List ℕ} where
-    pub levels-short : length vs < 2 * bits → StoredTreeLeft (codeOf slots width ds vs ps) slots (BsgsPowersOfTwo width) ds vs vs ps ps (Grown.Refused 12)
-    levels-short l = too-small slots width ds vs ps (rw (levels-room, lt-ltb _ _ l))
+  pub tree-planted : {room : ℕ} → count ≤ room → TreePlanted slots width ds room heap (Grown.Is bits count)
+  unfolding bitsIn
+  tree-planted {room} l =
+      let a = sizes p c in
+      record {
+        written = λ ps e. rw (e, ← count-is, le-ltb _ _ l) (record { answer = rw (← plan-tree z, a .bits, a .switches) refl; records-are = ap (λ (w : List PairRecord). inFront w ps) (a .records-are ∙ ap treeRecords (plan-tree z)) });
+        asked = asked-is a room l;
+      }
 
-    pub records-short : 2 * bits ≤ length vs → length ps < 2 * count → StoredTreeLeft (codeOf slots width ds vs ps) slots (BsgsPowersOfTwo width) ds vs vs ps ps (Grown.Refused 12)
-    records-short k l = too-small slots width ds vs ps (rw (levels-room, records-room, le-ltb _ _ k, lt-ltb _ _ l))
+module _ {slots w : ℕ} {gs : List ℕ} {r : ℕ} (j : StoredJudged slots (BsgsPowersOfTwo w) gs r) {room : ℕ} {heap : List Bool} where
+  pub plan-refused : (r ≡ 0 → ⊥) → PlanGrown slots (BsgsPowersOfTwo w) gs room heap (Grown.Refused r)
+  plan-refused n = record { written = λ ps e. rw (stored-first j ((ltb (length ps) (pairCount slots (BsgsPowersOfTwo w) gs), 12) ∷ []) n, refused-front r heap ps) (left-none r (planTree slots w gs) ps n); asked = asked-refused r heap room }
 
-    pub tree-left : {vs' ps' : List ℕ} → 2 * bits ≤ length vs → 2 * count ≤ length ps → vs' ≡ inFront (levelWords (heapLevels slots width bits heap bits)) vs → ps' ≡ inFront (allWords bits heap bits) ps
-        → StoredTreeLeft (codeOf slots width ds vs ps) slots (BsgsPowersOfTwo width) ds vs vs' ps ps' (Grown.Is bits count)
-    unfolding planLevels planRecords storedTreeAnswered
-    tree-left k l x y =
-        let q : codeOf slots width ds vs ps ≡ 0 = rw (levels-room, records-room, le-ltb _ _ k, le-ltb _ _ l) in
-        let a = sizes p c in
+  pub plan-grown : {a : TreeAnswer} → r ≡ 0 → TreePlanted slots w gs room heap a → PlanGrown slots (BsgsPowersOfTwo w) gs room heap a
+  plan-grown e t = record { written = λ ps l. rw (stored-later j ((ltb (length ps) (pairCount slots (BsgsPowersOfTwo w) gs), 12) ∷ []) e) (t .written ps l); asked = t .asked }
+
+-- per rotation
+module _ {slots : ℕ} {gs : List ℕ} {room : ℕ} {heap : List Bool} where
+  pub no-plan-width : {w : ℕ} → PlanGrown slots (Bsgs w) gs room heap Grown.NoTree
+  no-plan-width = record { written = λ ps e. (refl, none-front heap ps); asked = asked-none heap room }
+
+  pub no-plan-direct : PlanGrown slots Direct gs room heap Grown.NoTree
+  no-plan-direct = record { written = λ ps e. (refl, none-front heap ps); asked = asked-none heap room }
+
+-- where each rotation has its own key, nothing is written
+pub each-written : (slots : ℕ) (s : LinearTransformationStrategy) (gs : List ℕ) (ps : List PairRecord) → turnsEach s ≡ true → PlanRecordsWritten slots s gs ps ps Grown.NoTree
+unfolding turnsEach
+each-written slots (Bsgs w) gs ps e = (refl, refl)
+each-written slots (BsgsPowersOfTwo w) gs ps e = absurd (true≢false (sym e))
+each-written slots Direct gs ps e = (refl, refl)
+
+-- ---- a part of a slice
+
+-- count words from `from` on, or as many as there are
+pub part-is : (xs : List ℕ) (from count start end : ℕ) → start ≡ min from (length xs) → end ≡ start + min count (length xs - start) → take (end - start) (drop start xs) ≡ take count (drop from xs)
+part-is xs from count start end e f = ⊎-elim inside outside (lt-or-ge from (length xs))
+  where
+    outside : length xs ≤ from → take (end - start) (drop start xs) ≡ take count (drop from xs)
+    outside h =
+        ap (take (end - start)) (drop-of-length-le xs {i = start} (omega (arith, e))) ∙ take-nil (end - start)
+        ∙ sym (ap (take count) (drop-of-length-le xs {i = from} h) ∙ take-nil count)
+
+    inside : from < length xs → take (end - start) (drop start xs) ≡ take count (drop from xs)
+    inside h =
+        let q : start ≡ from = omega (arith, e) in
         rw q
-        (record {
-          answer = rw (← plan-tree z, a .bits, a .switches) refl;
-          levels-are = x ∙ ap (λ (w : List Level). inFront (levelWords w) vs) (a .levels-are) ∙ ap (λ (w : Tree). inFront (levelWords (w .levels)) vs) (plan-tree z);
-          records-are = y ∙ ap (λ (w : List ℕ). inFront w ps) (a .pairs-are) ∙ ap (λ (w : Tree). inFront (recordWords (w .levels)) ps) (plan-tree z);
-        })
+        (⊎-elim
+        (λ (l : count < length xs - from). let d : end - from ≡ count = omega (arith, f) in ap (λ (n : ℕ). take n (drop from xs)) d)
+        (λ (l : length xs - from ≤ count). take-all (end - from) (drop from xs) (omega (arith, f, length-drop from xs)) ∙ sym (take-all count (drop from xs) (omega (arith, length-drop from xs))))
+        (lt-or-ge count (length xs - from)))

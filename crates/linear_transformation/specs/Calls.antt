@@ -4,7 +4,7 @@ use Prim.Native.Nat.{ℕ, zero, suc}
 use mathlib.Core.Bool.{Bool, not}
 use mathlib.Core.Path.{_≡_}
 use mathlib.Core.List.{List, [], _∷_, _++_}
-use lib.Dec.{ltb}
+use lib.Dec.{leb, ltb}
 use lib.IntN.{ℤ, pos}
 use lib.ListN.{length}
 use Rattle.ring.specs.Lists.{join}
@@ -21,10 +21,11 @@ use Rattle.linear_transformation.specs.declared.rotations.PassesAnswer.{
 use Rattle.linear_transformation.specs.declared.rotations.PassesAnswer.the-variants as Passed
 use Rattle.linear_transformation.specs.declared.rotations.TreeAnswer.{TreeAnswer}
 use Rattle.linear_transformation.specs.declared.rotations.TreeAnswer.the-variants as Grown
+use Rattle.linear_transformation.specs.declared.records.PairRecord.{PairRecord}
 use Rattle.linear_transformation.specs.declared.plan.PlanAnswer.{PlanAnswer}
 use Rattle.linear_transformation.specs.declared.plan.PlanAnswer.the-variants as Planned
 use Rattle.linear_transformation.specs.Strategies.{widthOutside}
-use Rattle.linear_transformation.specs.Trees.{Tree, levelWords, recordWords, treeSwitches}
+use Rattle.linear_transformation.specs.Trees.{Tree, levelWords, treeRecords, treeSwitches}
 use Rattle.linear_transformation.specs.Schedules.{planBabies, planGiants, planWords}
 use Rattle.linear_transformation.specs.Listed.{noBaby, giantRefusals, listTree, babyRefusals, passesOf, passWords, moveWords}
 use Rattle.linear_transformation.specs.declared.digits.Digit.{Digit}
@@ -43,6 +44,10 @@ babyRefusal baby step = firstOf ((outside step, 3) ∷ (noBaby baby step, 9) ∷
 abbrev pub digitRefusal : ℕ → ℕ → ℤ → ℕ
 digitRefusal slots step rot =
     firstOf ((outside slots, 1) ∷ (outside step, 3) ∷ (not (divides step (residueOf rot slots)), 10) ∷ [])
+
+-- `tree_rotation`; 3 also: more than 16 levels, or a level that is none of b
+abbrev pub levelRefusal : ℕ → ℕ → ℕ → ℕ → ℕ
+levelRefusal slots step b i = firstOf ((outside slots, 1) ∷ (outside step, 3) ∷ (ltb 16 b, 3) ∷ (leb b i, 3) ∷ [])
 
 -- document 01's numbers of an answer: the refusal and the digit
 abbrev pub digitNumbers : DigitAnswer → ℕ × ℤ
@@ -118,30 +123,30 @@ abbrev pub treeAnswered : ℕ → Tree → TreeAnswer
 treeAnswered zero t = Grown.Is (t .bits) (treeSwitches t)
 treeAnswered (suc e) t = Grown.Refused (suc e)
 
--- `giant_tree`: a word a giant, two a level, two a pair
-abbrev pub treeRoom : Tree → List ℕ → List ℕ → List ℕ → List (Bool × ℕ)
-treeRoom t leaves levels pairs =
+-- `giant_tree`: a word a giant, two a level, a record a pair
+abbrev pub treeRoom : Tree → List ℕ → List ℕ → ℕ → List (Bool × ℕ)
+treeRoom t leaves levels room =
     (ltb (length leaves) (length (t .leaves)), 12)
     ∷ (ltb (length levels) (length (levelWords (t .levels))), 12)
-    ∷ (ltb (length pairs) (length (recordWords (t .levels))), 12)
+    ∷ (ltb room (treeSwitches t), 12)
     ∷ []
 
 -- what the call leaves, by its refusal
-pub record TreeLeft (e : ℕ) (t : Tree) (leaves leaves' levels levels' pairs pairs' : List ℕ) (r : TreeAnswer) : Type 0 where
+pub record TreeLeft (e : ℕ) (t : Tree) (leaves leaves' levels levels' : List ℕ) (records records' : List PairRecord) (r : TreeAnswer) : Type 0 where
   pub answer : r ≡ treeAnswered e t
   pub leaves-are : leaves' ≡ onAccept e (inFront (t .leaves) leaves) leaves
   pub levels-are : levels' ≡ onAccept e (inFront (levelWords (t .levels)) levels) levels
-  pub pairs-are : pairs' ≡ onAccept e (inFront (recordWords (t .levels)) pairs) pairs
+  pub records-are : records' ≡ onAccept e (inFront (treeRecords t) records) records
 
 -- per rotation there is no tree, and nothing is written
-pub record NoneLeft (leaves leaves' levels levels' pairs pairs' : List ℕ) (r : TreeAnswer) : Type 0 where
+pub record NoneLeft (leaves leaves' levels levels' : List ℕ) (records records' : List PairRecord) (r : TreeAnswer) : Type 0 where
   pub answer : r ≡ Grown.NoTree
   pub leaves-are : leaves' ≡ leaves
   pub levels-are : levels' ≡ levels
-  pub pairs-are : pairs' ≡ pairs
+  pub records-are : records' ≡ records
 
-abbrev pub TreeWritten : BsgsRotations → List ℤ → List ℕ → List ℕ → List ℕ → List ℕ → List ℕ → List ℕ → TreeAnswer → Type 0
-TreeWritten PerRotation gs leaves leaves' levels levels' pairs pairs' r = NoneLeft leaves leaves' levels levels' pairs pairs' r
-TreeWritten (PowersOfTwo babyStep giantStep slots) gs leaves leaves' levels levels' pairs pairs' r =
+abbrev pub TreeWritten : BsgsRotations → List ℤ → List ℕ → List ℕ → List ℕ → List ℕ → List PairRecord → List PairRecord → TreeAnswer → Type 0
+TreeWritten PerRotation gs leaves leaves' levels levels' records records' r = NoneLeft leaves leaves' levels levels' records records' r
+TreeWritten (PowersOfTwo babyStep giantStep slots) gs leaves leaves' levels levels' records records' r =
     let t = listTree slots giantStep gs in
-    TreeLeft (firstOf (giantRefusals (PowersOfTwo babyStep giantStep slots) gs ++ treeRoom t leaves levels pairs)) t leaves leaves' levels levels' pairs pairs' r
+    TreeLeft (firstOf (giantRefusals (PowersOfTwo babyStep giantStep slots) gs ++ treeRoom t leaves levels (length records))) t leaves leaves' levels levels' records records' r

@@ -11,6 +11,7 @@ pub mod Gaps
 pub mod Switches
 pub mod Calls
 pub mod Stored
+pub mod Records
 pub mod Tables
 pub mod Runs
 pub mod CommonDivisors

@@ -4,5 +4,6 @@ pub mod Babies
 pub mod Plans
 pub mod Keys
 pub mod Trees
+pub mod Records
 pub mod Widths
 pub mod Stored

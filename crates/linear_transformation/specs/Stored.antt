@@ -14,12 +14,13 @@ use Rattle.ring.specs.Refusals.{firstOf, onAccept, outside}
 use Rattle.linear_transformation.specs.declared.LinearTransformationStrategy.{LinearTransformationStrategy}
 use Rattle.linear_transformation.specs.declared.LinearTransformationStrategy.the-variants.{Bsgs, BsgsPowersOfTwo, Direct}
 use Rattle.linear_transformation.specs.declared.plan.PlanAnswer.{PlanAnswer}
+use Rattle.linear_transformation.specs.declared.records.PairRecord.{PairRecord}
 use Rattle.linear_transformation.specs.declared.rotations.TreeAnswer.{TreeAnswer}
 use Rattle.linear_transformation.specs.declared.rotations.TreeAnswer.the-variants as Grown
 use Rattle.linear_transformation.specs.declared.stored.NeedsAnswer.{NeedsAnswer}
 use Rattle.linear_transformation.specs.declared.stored.NeedsAnswer.the-variants.{Refused, Is}
 use Rattle.linear_transformation.specs.Strategies.{widthOutside}
-use Rattle.linear_transformation.specs.Trees.{levelWords, recordWords, treeSwitches}
+use Rattle.linear_transformation.specs.Trees.{Tree, treeRecords, treeSwitches}
 use Rattle.linear_transformation.specs.Schedules.{babyStep, planBabies, planGiants, planWords, planTree, planKeys, planSwitches}
 use Rattle.linear_transformation.specs.Calls.{planAnswered, treeAnswered}
 
@@ -47,22 +48,16 @@ storedRefusals slots strategy ks = (outside slots, 1) ∷ (not (offsetsRise slot
 unfoldable pub isMissing : List ℕ → List ℕ → Bool
 isMissing held keys = some (λ k. not (among k held)) keys
 
--- the pairs of the tree, per rotation none; and their words, two each
+-- the pairs of the tree, per rotation none: how many, and as records
 unfoldable pub pairCount : ℕ → LinearTransformationStrategy → List ℕ → ℕ
 pairCount slots (Bsgs width) ks = 0
 pairCount slots (BsgsPowersOfTwo width) ks = treeSwitches (planTree slots width ks)
 pairCount slots Direct ks = 0
 
-unfoldable pub planRecords : ℕ → LinearTransformationStrategy → List ℕ → List ℕ
+unfoldable pub planRecords : ℕ → LinearTransformationStrategy → List ℕ → List PairRecord
 planRecords slots (Bsgs width) ks = []
-planRecords slots (BsgsPowersOfTwo width) ks = recordWords (planTree slots width ks .levels)
+planRecords slots (BsgsPowersOfTwo width) ks = treeRecords (planTree slots width ks)
 planRecords slots Direct ks = []
-
--- the words of the tree's levels, two each; per rotation none
-unfoldable pub planLevels : ℕ → LinearTransformationStrategy → List ℕ → List ℕ
-planLevels slots (Bsgs width) ks = []
-planLevels slots (BsgsPowersOfTwo width) ks = levelWords (planTree slots width ks .levels)
-planLevels slots Direct ks = []
 
 -- the baby step with powers of two; 0 where there is none, each rotation having its own key
 unfoldable pub stepOf : ℕ → LinearTransformationStrategy → List ℕ → ℕ
@@ -70,21 +65,27 @@ stepOf slots (Bsgs width) ks = 0
 stepOf slots (BsgsPowersOfTwo width) ks = babyStep slots width ks
 stepOf slots Direct ks = 0
 
+-- b of the tree; 0 per rotation
+unfoldable pub bitsFor : ℕ → LinearTransformationStrategy → List ℕ → ℕ
+bitsFor slots (Bsgs width) ks = 0
+bitsFor slots (BsgsPowersOfTwo width) ks = planTree slots width ks .bits
+bitsFor slots Direct ks = 0
+
 -- ---- `plan_needs`
 
 abbrev pub needsRefusal : ℕ → LinearTransformationStrategy → List ℕ → List ℕ → ℕ
 needsRefusal slots strategy ks held =
     firstOf (storedRefusals slots strategy ks ++ (isMissing held (planKeys slots strategy ks), 11) ∷ [])
 
--- document 01's numbers of the answer: the refusal, how many babies, giants, pairs and switches, and the step
+-- document 01's numbers of the answer: the refusal, how many babies, giants, pairs and switches, the step and b
 abbrev pub needsNumbers : NeedsAnswer → List ℕ
-needsNumbers (Refused e) = e ∷ 0 ∷ 0 ∷ 0 ∷ 0 ∷ 0 ∷ []
-needsNumbers (Is b g p s t) = 0 ∷ b ∷ g ∷ p ∷ s ∷ t ∷ []
+needsNumbers (Refused e) = e ∷ 0 ∷ 0 ∷ 0 ∷ 0 ∷ 0 ∷ 0 ∷ []
+needsNumbers (Is b g p s t n) = 0 ∷ b ∷ g ∷ p ∷ s ∷ t ∷ n ∷ []
 
 -- the answer of a call with refusal e (0: none) and these numbers
-abbrev pub needsAnswered : ℕ → ℕ → ℕ → ℕ → ℕ → ℕ → NeedsAnswer
-needsAnswered zero b g p s t = Is b g p s t
-needsAnswered (suc e) b g p s t = Refused (suc e)
+abbrev pub needsAnswered : ℕ → ℕ → ℕ → ℕ → ℕ → ℕ → ℕ → NeedsAnswer
+needsAnswered zero b g p s t n = Is b g p s t n
+needsAnswered (suc e) b g p s t n = Refused (suc e)
 
 -- the answer by the refusal e
 unfoldable pub planNeeds : ℕ → ℕ → LinearTransformationStrategy → List ℕ → NeedsAnswer
@@ -96,6 +97,7 @@ planNeeds e slots strategy ks =
     (pairCount slots strategy ks)
     (planSwitches slots strategy ks)
     (stepOf slots strategy ks)
+    (bitsFor slots strategy ks)
 
 -- ---- `stored_plan`
 
@@ -107,28 +109,16 @@ pub record StoredPlanWritten (slots : ℕ) (strategy : LinearTransformationStrat
   pub answer : r ≡ planAnswered (storedPlanRefusal slots strategy ks old) (length (planBabies slots strategy ks)) (length (planGiants slots strategy ks)) (length ks)
   pub words : new ≡ onAccept (storedPlanRefusal slots strategy ks old) (inFront (planWords slots strategy ks) old) old
 
--- ---- `stored_tree`
-
--- per rotation no words are needed
-abbrev pub storedTreeRoom : ℕ → LinearTransformationStrategy → List ℕ → List ℕ → List ℕ → List (Bool × ℕ)
-storedTreeRoom slots strategy ks levels records =
-    (ltb (length levels) (length (planLevels slots strategy ks)), 12)
-    ∷ (ltb (length records) (length (planRecords slots strategy ks)), 12)
-    ∷ []
-
--- the answer of a call with refusal e (0: none); per rotation there is no tree
-unfoldable pub storedTreeAnswered : ℕ → ℕ → LinearTransformationStrategy → List ℕ → TreeAnswer
-storedTreeAnswered zero slots (Bsgs width) ks = Grown.NoTree
-storedTreeAnswered zero slots (BsgsPowersOfTwo width) ks = treeAnswered 0 (planTree slots width ks)
-storedTreeAnswered zero slots Direct ks = Grown.NoTree
-storedTreeAnswered (suc e) slots strategy ks = Grown.Refused (suc e)
+-- ---- `plan_records`: the records of the tree over a plan's giants, which are read as they stand
 
 -- what the call leaves, by its refusal e
-pub record StoredTreeLeft (e slots : ℕ) (strategy : LinearTransformationStrategy) (ks levels levels' records records' : List ℕ) (r : TreeAnswer) : Type 0 where
-  pub answer : r ≡ storedTreeAnswered e slots strategy ks
-  pub levels-are : levels' ≡ onAccept e (inFront (planLevels slots strategy ks) levels) levels
-  pub records-are : records' ≡ onAccept e (inFront (planRecords slots strategy ks) records) records
+pub record RecordsLeft (e : ℕ) (t : Tree) (old new : List PairRecord) (r : TreeAnswer) : Type 0 where
+  pub answer : r ≡ treeAnswered e t
+  pub records-are : new ≡ onAccept e (inFront (treeRecords t) old) old
 
-abbrev pub StoredTreeWritten : ℕ → LinearTransformationStrategy → List ℕ → List ℕ → List ℕ → List ℕ → List ℕ → TreeAnswer → Type 0
-StoredTreeWritten slots strategy ks levels levels' records records' r =
-    StoredTreeLeft (firstOf (storedRefusals slots strategy ks ++ storedTreeRoom slots strategy ks levels records)) slots strategy ks levels levels' records records' r
+-- per rotation there is no tree, and nothing is written
+abbrev pub PlanRecordsWritten : ℕ → LinearTransformationStrategy → List ℕ → List PairRecord → List PairRecord → TreeAnswer → Type 0
+PlanRecordsWritten slots (Bsgs width) gs old new r = (r ≡ Grown.NoTree) × (new ≡ old)
+PlanRecordsWritten slots (BsgsPowersOfTwo width) gs old new r =
+    RecordsLeft (firstOf (storedRefusals slots (BsgsPowersOfTwo width) gs ++ (ltb (length old) (pairCount slots (BsgsPowersOfTwo width) gs), 12) ∷ [])) (planTree slots width gs) old new r
+PlanRecordsWritten slots Direct gs old new r = (r ≡ Grown.NoTree) × (new ≡ old)

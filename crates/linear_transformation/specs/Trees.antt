@@ -8,6 +8,7 @@ use lib.ListN.{length}
 use Rattle.ring.specs.Lists.{join, some}
 use Rattle.ring.specs.Searches.{below, only}
 use Rattle.ring.specs.Vectors.{tabulate}
+use Rattle.linear_transformation.specs.declared.records.PairRecord.{PairRecord}
 use Rattle.linear_transformation.specs.declared.digits.Rot.{Rot}
 use Rattle.linear_transformation.specs.declared.digits.Digit.{Digit}
 use Rattle.linear_transformation.specs.Digits.{digit, bitsOf, leaf, levelRotation}
@@ -28,20 +29,15 @@ there leaves i n = some (λ l. eqb (l / 2 ^ i) n) leaves
 unfoldable pub nodes : ℕ → List ℕ → ℕ → List ℕ
 nodes b leaves i = below (there leaves i) (2 ^ (b - i))
 
--- a pair: the odd node, and whether node odd - 1 is there
-pub record Pair : Type 0 where
-  pub odd : ℕ
-  pub even-there : Bool
-
--- the pairs of level i, odd rising
-unfoldable pub pairsAt : ℕ → List ℕ → ℕ → List Pair
+-- the pairs of level i, odd rising: the odd node, and whether node odd - 1 is there
+unfoldable pub pairsAt : ℕ → List ℕ → ℕ → List PairRecord
 pairsAt b leaves i =
-    map (λ n. record { odd = n; even-there = there leaves i (n - 1) }) (join (λ n. only (eqb (n % 2) 1) n) (nodes b leaves i))
+    map (λ n. record { odd = n; «even_there» = there leaves i (n - 1) }) (join (λ n. only (eqb (n % 2) 1) n) (nodes b leaves i))
 
 -- a level: its rotation and its pairs
 pub record Level : Type 0 where
   pub rotation : Rot
-  pub pairs : List Pair
+  pub pairs : List PairRecord
 
 -- the levels 0 to b - 1
 unfoldable pub levelsOf : ℕ → ℕ → ℕ → List ℕ → List Level
@@ -59,6 +55,10 @@ treeOf slots step giants =
     let ds = digitsOf slots step giants in
     record { bits = bitsOf ds; leaves = leavesOf ds; levels = levelsOf slots step (bitsOf ds) (leavesOf ds) }
 
+-- the records of a tree: the pairs of all levels, level after level
+abbrev pub treeRecords : Tree → List PairRecord
+treeRecords t = join (λ l. l .pairs) (t .levels)
+
 -- ---- as words
 
 -- for each level its rotation and its number of pairs
@@ -70,14 +70,10 @@ abbrev pub flag : Bool → ℕ
 flag true = 1
 flag false = 0
 
--- the pairs of all levels, level after level: the odd node and the flag
-abbrev pub recordWords : List Level → List ℕ
-recordWords ls = join (λ l. join (λ p. p .odd ∷ flag (p .even-there) ∷ []) (l .pairs)) ls
-
 -- ---- keys and switches
 
 -- the rotations of the levels that have pairs
-abbrev pub keyed : Rot → List Pair → List ℕ
+abbrev pub keyed : Rot → List PairRecord → List ℕ
 keyed rot [] = []
 keyed rot (p ∷ ps) = rot .0 ∷ []
 
@@ -86,4 +82,4 @@ treeKeys t = join (λ l. keyed (l .rotation) (l .pairs)) (t .levels)
 
 -- the pairs of all levels
 unfoldable pub treeSwitches : Tree → ℕ
-treeSwitches t = length (join (λ l. l .pairs) (t .levels))
+treeSwitches t = length (treeRecords t)

@@ -11,6 +11,7 @@ ghost use Rattle.linear_transformation.specs.Digits.{leaf};
 ghost use Rattle.linear_transformation.specs.Trees.{treeKeys, treeSwitches};
 ghost use Rattle.linear_transformation.specs.Listed.{giantRefusals, listTree, giantKeysOf, giantSwitchesOf};
 ghost use Rattle.linear_transformation.specs.Calls.{ListWritten, TreeWritten};
+ghost use Rattle.linear_transformation.specs.Steps.Records.{ownKeys, TreeGrown};
 ghost use Rattle.linear_transformation.specs.Steps.Trees.{Stepped, Listing, AreMultiples, GiantsJudged, OneGiant, DigitIs, LargestIs, BitsAre, LeafAsked, LeafIs, LeavesAsked, leavesAt, Blank, LeavesMarked, Planted};
 use crate::babies::count_nonzeros;
 use crate::digits::Digit;
@@ -22,7 +23,8 @@ use crate::heap::power;
 use crate::heap::tree_size;
 use crate::heap::write_keys;
 use crate::heap::write_levels;
-use crate::heap::write_pairs;
+use crate::records::PairRecord;
+use crate::records::write_answer;
 use crate::rotations::BsgsRotations;
 use crate::rotations::TreeAnswer;
 use crate::rotations::steps_refusal;
@@ -153,9 +155,11 @@ fn grow(
     giants: &[i64],
     leaves: &mut [u32],
     levels: &mut [u32],
-    pairs: &mut [u32],
+    room: usize,
+    heap: &mut [bool; 131072],
 ) -> TreeAnswer
-    ensures { λ r. ⌜ TreeWritten (PowersOfTwo «baby_step» «giant_step» slots) (now (giants .entry)) (now (leaves .entry)) (now (leaves .exit)) (now (levels .entry)) (now (levels .exit)) (now (pairs .entry)) (now (pairs .exit)) r ⌝ }
+    requires { ⌜ Blank (now heap) ⌝ }
+    ensures { λ r. ⌜ TreeGrown (PowersOfTwo «baby_step» «giant_step» slots) (now (giants .entry)) (now (leaves .entry)) (now (leaves .exit)) (now (levels .entry)) (now (levels .exit)) room (now (heap .exit)) r ⌝ }
 {
     let code = giants_refusal(baby_step, giant_step, slots, giants);
     if code != 0 {
@@ -163,9 +167,8 @@ fn grow(
     }
     let step = giant_step as u32;
     let n = slots as u32;
-    let mut heap = [false; 131072];
-    let bits = plant(step, n, giants, &mut heap);
-    let count = tree_size(bits, &heap);
+    let bits = plant(step, n, giants, heap);
+    let count = tree_size(bits, heap);
     let b = ring::wide(bits);
     if leaves.len() < giants.len() {
         return TreeAnswer::Refused(12);
@@ -173,30 +176,45 @@ fn grow(
     if levels.len() < 2 * b {
         return TreeAnswer::Refused(12);
     }
-    if pairs.len() < 2 * count {
+    if room < count {
         return TreeAnswer::Refused(12);
     }
     write_leaves(bits, step, n, giants, leaves);
-    write_levels(bits, step, n, &heap, levels);
-    write_pairs(bits, &heap, pairs);
+    write_levels(bits, step, n, heap, levels);
     TreeAnswer::Is {
         bits: bits,
         pairs: count,
     }
 }
 
-// The tree over the giants: b, the number of pairs, and in front of the buffers one word a giant (its
-// leaf), two a level (its rotation and its number of pairs) and two a pair (its odd node, and whether
-// the even one is there). Per rotation there is no tree. Refuses with 1 slots and with 3 a step outside
-// 1..=65536, with 10 a giant that is no multiple of the step, with 12 too small a buffer.
-pub fn giant_tree(
+// Whether each rotation has its own key.
+pub(crate) fn has_own_keys(rotations: BsgsRotations) -> bool
+    ensures { λ r. ⌜ r ≡ ownKeys rotations ⌝ }
+{
+    match rotations {
+        BsgsRotations::PerRotation => true,
+        BsgsRotations::PowersOfTwo {
+            baby_step: _,
+            giant_step: _,
+            slots: _,
+        } => false,
+    }
+}
+
+// The tree over the giants, in the heap, where `room` records are lent: b, the number of pairs, and in
+// front of the buffers one word a giant (its leaf) and two a level (its rotation and its number of
+// pairs). Per rotation there is no tree. Refuses with 1 slots and with 3 a step outside 1..=65536, with
+// 10 a giant that is no multiple of the step, with 12 too small a buffer.
+pub(crate) fn grow_tree(
     rotations: BsgsRotations,
     giants: &[i64],
     leaves: &mut [u32],
     levels: &mut [u32],
-    pairs: &mut [u32],
+    room: usize,
+    heap: &mut [bool; 131072],
 ) -> TreeAnswer
-    ensures { λ r. ⌜ TreeWritten rotations (now (giants .entry)) (now (leaves .entry)) (now (leaves .exit)) (now (levels .entry)) (now (levels .exit)) (now (pairs .entry)) (now (pairs .exit)) r ⌝ }
+    requires { ⌜ Blank (now heap) ⌝ }
+    ensures { λ r. ⌜ TreeGrown rotations (now (giants .entry)) (now (leaves .entry)) (now (leaves .exit)) (now (levels .entry)) (now (levels .exit)) room (now (heap .exit)) r ⌝ }
 {
     match rotations {
         BsgsRotations::PerRotation => TreeAnswer::NoTree,
@@ -204,8 +222,29 @@ pub fn giant_tree(
             baby_step: b,
             giant_step: g,
             slots: n,
-        } => { grow(b, g, n, giants, leaves, levels, pairs) }
+        } => { grow(b, g, n, giants, leaves, levels, room, heap) }
     }
+}
+
+// The tree over the giants: b, the number of pairs, and in front of the buffers one word a giant (its
+// leaf), two a level (its rotation and its number of pairs), and one record a pair. Per rotation there
+// is no tree. Refuses as `grow_tree`. The heap is cleared only where there is a tree.
+pub fn giant_tree(
+    rotations: BsgsRotations,
+    giants: &[i64],
+    leaves: &mut [u32],
+    levels: &mut [u32],
+    records: &mut [PairRecord],
+) -> TreeAnswer
+    ensures { λ r. ⌜ TreeWritten rotations (now (giants .entry)) (now (leaves .entry)) (now (leaves .exit)) (now (levels .entry)) (now (levels .exit)) (now (records .entry)) (now (records .exit)) r ⌝ }
+{
+    if has_own_keys(rotations) {
+        return TreeAnswer::NoTree;
+    }
+    let mut heap = [false; 131072];
+    let answer = grow_tree(rotations, giants, leaves, levels, records.len(), &mut heap);
+    write_answer(answer, &heap, records);
+    answer
 }
 
 fn tree_keys(

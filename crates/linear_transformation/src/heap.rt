@@ -5,11 +5,12 @@ ghost use Prim.Native.Nat.{_+_, _*_, _^_, _≤_, _<_};
 ghost use lib.IntN.{pos, _*ℤ_};
 ghost use mathlib.Core.Bool.{_||_};
 ghost use lib.ListN.{length};
-ghost use Rattle.ring.specs.Lists.{join};
-ghost use Rattle.ring.specs.Vectors.{tabulate, inFront, Behind};
+ghost use Rattle.ring.specs.Vectors.{inFront, Behind};
+ghost use Rattle.ring.specs.Answers.{answered};
 ghost use Rattle.linear_transformation.specs.Digits.{rotOf, levelRotation};
-ghost use Rattle.linear_transformation.specs.Trees.{flag, levelWords};
-ghost use Rattle.linear_transformation.specs.Steps.Trees.{Climbing, Climbed, heapPairs, levelPairs, heapLevels, heapSwitches, Turnable, LevelDigit, LevelAsked, LevelsAsked, PairsFit, wordsOf, keysOf};
+ghost use Rattle.linear_transformation.specs.Trees.{levelWords};
+ghost use Rattle.linear_transformation.specs.Calls.{levelRefusal};
+ghost use Rattle.linear_transformation.specs.Steps.Trees.{Climbing, Climbed, heapPairs, heapLevels, heapSwitches, Turnable, LevelDigit, LevelAsked, LevelsAsked, keysOf};
 use crate::digits::Digit;
 use crate::digits::Rot;
 
@@ -101,6 +102,27 @@ fn level_rotation(bits: u32, i: u32, step: u32, slots: u32) -> Rot
     rotation_of(level_digit(bits, i), step, slots)
 }
 
+// The rotation of a level of a tree with b = `bits`, for any numbers. Refuses with 1 slots and with 3 a
+// step outside 1..=65536, and with 3 more than 16 levels or a level that is none of the tree's.
+pub fn tree_rotation(bits: u32, level: u32, giant_step: usize, slots: usize) -> ring::Answer
+    ensures { λ r. ⌜ r ≡ answered (levelRefusal slots «giant_step» bits level) (levelRotation slots «giant_step» bits level .0) ⌝ }
+{
+    if ring::is_outside(slots) {
+        return ring::Answer::Refused(1);
+    }
+    if ring::is_outside(giant_step) {
+        return ring::Answer::Refused(3);
+    }
+    if 16 < bits {
+        return ring::Answer::Refused(3);
+    }
+    if bits <= level {
+        return ring::Answer::Refused(3);
+    }
+    let rotation = level_rotation(bits, level, giant_step as u32, slots as u32);
+    ring::Answer::Is(ring::wide(rotation.0))
+}
+
 // Two words a level: its rotation and its number of pairs.
 pub(crate) fn write_levels(
     bits: u32,
@@ -120,47 +142,6 @@ pub(crate) fn write_levels(
         levels[at] = level_rotation(bits, i, step, slots).0;
         levels[at + 1] = level_size(size, heap) as u32;
         at += 2;
-    }
-}
-
-fn flag_of(b: bool) -> u32
-    ensures { λ r. ⌜ r ≡ flag b ⌝ }
-{
-    if b {
-        return 1;
-    }
-    0
-}
-
-// Two words a pair of the level with 2·m places, from at on: the odd node, and whether the even one
-// is there. Gives the place behind them.
-fn write_level(m: usize, at: usize, heap: &[bool; 131072], pairs: &mut [u32]) -> usize
-    requires { ⌜ PairsFit (now heap) m at (now pairs) ⌝ }
-    ensures { λ r. ⌜ Behind at (wordsOf (heapPairs (now (heap .entry)) m m)) (now (pairs .entry)) (now (pairs .exit)) r ⌝ }
-{
-    let mut to = at;
-    for k in 0..m {
-        let h = 2 * (m + k);
-        if heap[h + 1] {
-            pairs[to] = (2 * k + 1) as u32;
-            pairs[to + 1] = flag_of(heap[h]);
-            to += 2;
-        }
-    }
-    to
-}
-
-// The pairs of all levels, level after level.
-pub(crate) fn write_pairs(bits: u32, heap: &[bool; 131072], pairs: &mut [u32])
-    requires { ⌜ bits ≤ 16 ⌝ }
-    requires { ⌜ 2 * heapSwitches bits (now heap) bits ≤ length (now pairs) ⌝ }
-    ensures { λ _. ⌜ now (pairs .exit) ≡ inFront (join (λ i. wordsOf (levelPairs (now (heap .entry)) bits i)) (tabulate bits (λ i. i))) (now (pairs .entry)) ⌝ }
-{
-    let mut size = power(bits) as usize;
-    let mut at = 0;
-    for i in 0..bits {
-        size = size / 2;
-        at = write_level(size, at, heap, pairs);
     }
 }
 

@@ -264,22 +264,39 @@ fn own_keys(ds: &[u32], slots: u32, width: u32, out: &mut [u32]) -> ring::Answer
 }
 
 // The keys with powers of two: the rotations of the passes, then those of the levels that have pairs.
-pub(crate) fn power_keys(ds: &[u32], slots: u32, width: u32, out: &mut [u32]) -> ring::Answer
+// The tree over the plan's giants stands in the heap.
+pub(crate) fn power_keys(
+    ds: &[u32],
+    slots: u32,
+    width: u32,
+    bits: u32,
+    heap: &[bool; 131072],
+    out: &mut [u32],
+) -> ring::Answer
     requires { ⌜ Sizable slots width (now ds) ⌝ }
+    requires { ⌜ Planted slots width (giantsOf width (now ds)) (now heap) bits ⌝ }
     ensures { λ r. ⌜ ListWritten [] (planKeys slots (BsgsPowersOfTwo width) (now (ds .entry))) (now (out .entry)) (now (out .exit)) r ⌝ }
 {
     let mut seen = [false; 65536];
     let marked = mark_closure(ds, slots, width, &mut seen);
-    let mut heap = [false; 131072];
-    let bits = plant_plan(ds, slots, width, &mut heap);
     let passes = count_tops(&seen, marked.n);
-    let levels = keys_count(bits, width, slots, &heap);
+    let levels = keys_count(bits, width, slots, heap);
     if out.len() < passes + levels {
         return ring::Answer::Refused(12);
     }
     write_tops(&seen, marked.n, marked.step, out);
-    write_keys(bits, width, slots, &heap, passes, out);
+    write_keys(bits, width, slots, heap, passes, out);
     ring::Answer::Is(passes + levels)
+}
+
+// The same, where no tree is planted yet.
+fn keys_planted(ds: &[u32], slots: u32, width: u32, out: &mut [u32]) -> ring::Answer
+    requires { ⌜ Sizable slots width (now ds) ⌝ }
+    ensures { λ r. ⌜ ListWritten [] (planKeys slots (BsgsPowersOfTwo width) (now (ds .entry))) (now (out .entry)) (now (out .exit)) r ⌝ }
+{
+    let mut heap = [false; 131072];
+    let bits = plant_plan(ds, slots, width, &mut heap);
+    power_keys(ds, slots, width, bits, &heap, out)
 }
 
 fn keys_sorted(
@@ -296,7 +313,7 @@ fn keys_sorted(
             own_keys(ds, slots, g as u32, out)
         }
         LinearTransformationStrategy::BsgsPowersOfTwo { giant_step: g } => {
-            power_keys(ds, slots, g as u32, out)
+            keys_planted(ds, slots, g as u32, out)
         }
         LinearTransformationStrategy::Direct => own_keys(ds, slots, 1, out),
     }

@@ -1,20 +1,20 @@
 // Plans of stored maps: their offsets rise and are below slots, so nothing is sorted and nothing copied.
 ghost use mathlib.Core.Path.{_≡_};
+ghost use mathlib.Core.Bool.{true, false};
 ghost use Prim.Native.Nat.{_≤_, _<_};
-ghost use lib.ListN.{length, take};
+ghost use lib.ListN.{length, take, drop};
 ghost use Rattle.ring.specs.Marks.{Unmarked};
 ghost use Rattle.linear_transformation.specs.declared.LinearTransformationStrategy.the-variants.{BsgsPowersOfTwo};
 ghost use Rattle.linear_transformation.specs.Plans.{babies, giants};
 ghost use Rattle.linear_transformation.specs.Schedules.{keysPerRotation, planKeys};
-ghost use Rattle.linear_transformation.specs.Stored.{offsetsRise, isMissing, stepOf, needsRefusal, planNeeds, StoredPlanWritten, storedTreeRoom, StoredTreeLeft, StoredTreeWritten};
+ghost use Rattle.linear_transformation.specs.Stored.{offsetsRise, stepOf, bitsFor, needsRefusal, planNeeds, StoredPlanWritten, PlanRecordsWritten};
 ghost use Rattle.linear_transformation.specs.Steps.Plans.{Diagonals};
-ghost use Rattle.linear_transformation.specs.Steps.Keys.{Sizable, Accepted};
-ghost use Rattle.linear_transformation.specs.Steps.Stored.{StoredJudged, HeldMarked, turnLacked, Lacking, Listed, PairsAre};
+ghost use Rattle.linear_transformation.specs.Steps.Keys.{Sizable, Accepted, Switches, giantsOf};
+ghost use Rattle.linear_transformation.specs.Steps.Stored.{StoredJudged, HeldMarked, turnLacked, Lacking, Listed, PairsAre, keysRefusal, turnsEach, TreePlanted, PlanGrown};
+ghost use Rattle.linear_transformation.specs.Steps.Trees.{Blank, Planted};
 ghost use Rattle.ring.specs.Refusals.{firstOf};
 use crate::LinearTransformationStrategy;
 use crate::heap::tree_size;
-use crate::heap::write_levels;
-use crate::heap::write_pairs;
 use crate::keys::baby_switches;
 use crate::keys::giant_switches;
 use crate::keys::plant_plan;
@@ -24,9 +24,11 @@ use crate::plan::baby_step_of;
 use crate::plan::count_giants;
 use crate::plan::plan_sorted;
 use crate::plan::word_width;
+use crate::records::PairRecord;
+use crate::records::write_answer;
 use crate::rotations::TreeAnswer;
 
-// The numbers of babies, giants, pairs and switches, and the baby step (0 per rotation).
+// The numbers of babies, giants, pairs and switches, the baby step and b of the tree (0 per rotation).
 pub enum NeedsAnswer {
     Refused(u32),
     Is {
@@ -35,6 +37,7 @@ pub enum NeedsAnswer {
         pairs: usize,
         switches: usize,
         step: u32,
+        bits: u32,
     },
 }
 
@@ -90,71 +93,117 @@ pub fn stored_plan(
     plan_sorted(offsets, slots as u32, strategy, plan)
 }
 
-// The tree over the plan's giants, with powers of two.
-fn write_tree(
+// Whether each rotation has its own key.
+pub(crate) fn turns_each(strategy: LinearTransformationStrategy) -> bool
+    ensures { λ r. ⌜ r ≡ turnsEach strategy ⌝ }
+{
+    match strategy {
+        LinearTransformationStrategy::Bsgs { giant_step: _ } => true,
+        LinearTransformationStrategy::BsgsPowersOfTwo { giant_step: _ } => false,
+        LinearTransformationStrategy::Direct => true,
+    }
+}
+
+// `count` words from `from` on, or as many as there are.
+fn part(words: &[u32], from: usize, count: usize) -> &[u32]
+    ensures { λ r. ⌜ now r ≡ take count (drop from (now (words .entry))) ⌝ }
+{
+    let start = ring::least(from, words.len());
+    let end = start + ring::least(count, words.len() - start);
+    &words[start..end]
+}
+
+// The tree over the giants of accepted offsets, in the heap, where `room` records are lent.
+fn plant_room(
     ds: &[u32],
     slots: u32,
     width: u32,
-    levels: &mut [u32],
-    records: &mut [u32],
+    room: usize,
+    heap: &mut [bool; 131072],
 ) -> TreeAnswer
     requires { ⌜ Sizable slots width (now ds) ⌝ }
-    ensures { λ r. ⌜ StoredTreeLeft (firstOf (storedTreeRoom slots (BsgsPowersOfTwo width) (now (ds .entry)) (now (levels .entry)) (now (records .entry)))) slots (BsgsPowersOfTwo width) (now (ds .entry)) (now (levels .entry)) (now (levels .exit)) (now (records .entry)) (now (records .exit)) r ⌝ }
+    requires { ⌜ Blank (now heap) ⌝ }
+    ensures { λ r. ⌜ TreePlanted slots width (now (ds .entry)) room (now (heap .exit)) r ⌝ }
 {
-    let mut heap = [false; 131072];
-    let bits = plant_plan(ds, slots, width, &mut heap);
-    let pairs = tree_size(bits, &heap);
-    if levels.len() < 2 * ring::wide(bits) {
+    let bits = plant_plan(ds, slots, width, heap);
+    let pairs = tree_size(bits, heap);
+    if room < pairs {
         return TreeAnswer::Refused(12);
     }
-    if records.len() < 2 * pairs {
-        return TreeAnswer::Refused(12);
-    }
-    write_levels(bits, width, slots, &heap, levels);
-    write_pairs(bits, &heap, records);
     TreeAnswer::Is {
         bits: bits,
         pairs: pairs,
     }
 }
 
-fn tree_sorted(
-    ds: &[u32],
-    slots: u32,
-    strategy: LinearTransformationStrategy,
-    levels: &mut [u32],
-    records: &mut [u32],
+// The same for a part of a plan, whose words may be any.
+fn grow_part(
+    slots: usize,
+    width: usize,
+    plan: &[u32],
+    from: usize,
+    count: usize,
+    room: usize,
+    heap: &mut [bool; 131072],
 ) -> TreeAnswer
-    requires { ⌜ Accepted slots strategy (now ds) ⌝ }
-    ensures { λ r. ⌜ StoredTreeLeft (firstOf (storedTreeRoom slots strategy (now (ds .entry)) (now (levels .entry)) (now (records .entry)))) slots strategy (now (ds .entry)) (now (levels .entry)) (now (levels .exit)) (now (records .entry)) (now (records .exit)) r ⌝ }
+    requires { ⌜ Blank (now heap) ⌝ }
+    ensures { λ r. ⌜ PlanGrown slots (BsgsPowersOfTwo width) (take count (drop from (now (plan .entry)))) room (now (heap .exit)) r ⌝ }
+{
+    let giants = part(plan, from, count);
+    let code = stored_refusal(
+        giants,
+        slots,
+        LinearTransformationStrategy::BsgsPowersOfTwo { giant_step: width },
+    );
+    if code != 0 {
+        return TreeAnswer::Refused(code);
+    }
+    plant_room(giants, slots as u32, width as u32, room, heap)
+}
+
+// The tree over the giants of a plan, `count` words from `from` on, in the heap, where `room` records
+// are lent: b and the number of pairs. Per rotation there is no tree. Refuses as `stored_plan`, with 12
+// too few records.
+pub(crate) fn grow_plan(
+    strategy: LinearTransformationStrategy,
+    slots: usize,
+    plan: &[u32],
+    from: usize,
+    count: usize,
+    room: usize,
+    heap: &mut [bool; 131072],
+) -> TreeAnswer
+    requires { ⌜ Blank (now heap) ⌝ }
+    ensures { λ r. ⌜ PlanGrown slots strategy (take count (drop from (now (plan .entry)))) room (now (heap .exit)) r ⌝ }
 {
     match strategy {
         LinearTransformationStrategy::Bsgs { giant_step: _ } => TreeAnswer::NoTree,
         LinearTransformationStrategy::BsgsPowersOfTwo { giant_step: g } => {
-            write_tree(ds, slots, g as u32, levels, records)
+            grow_part(slots, g, plan, from, count, room, heap)
         }
         LinearTransformationStrategy::Direct => TreeAnswer::NoTree,
     }
 }
 
-// The tree over the giants of a stored map's plan: b, the number of pairs, and in front of the buffers
-// two words a level (its rotation and its number of pairs) and two a pair (its odd node, and whether
-// the even one is there). Per rotation there is no tree. Refuses as `stored_plan`, with 12 too small a
-// buffer.
-pub fn stored_tree(
-    offsets: &[u32],
-    slots: usize,
+// The pair records of the tree over the giants of a plan, `count` words from `from` on, one a pair, in
+// front of the slice; b and the number of pairs. Per rotation there is no tree. Refuses as `grow_plan`.
+pub fn plan_records(
     strategy: LinearTransformationStrategy,
-    levels: &mut [u32],
-    records: &mut [u32],
+    slots: usize,
+    plan: &[u32],
+    from: usize,
+    count: usize,
+    records: &mut [PairRecord],
 ) -> TreeAnswer
-    ensures { λ r. ⌜ StoredTreeWritten slots strategy (now (offsets .entry)) (now (levels .entry)) (now (levels .exit)) (now (records .entry)) (now (records .exit)) r ⌝ }
+    ensures { λ r. ⌜ PlanRecordsWritten slots strategy (take count (drop from (now (plan .entry)))) (now (records .entry)) (now (records .exit)) r ⌝ }
 {
-    let code = stored_refusal(offsets, slots, strategy);
-    if code != 0 {
-        return TreeAnswer::Refused(code);
+    if turns_each(strategy) {
+        return TreeAnswer::NoTree;
     }
-    tree_sorted(offsets, slots as u32, strategy, levels, records)
+    let mut heap = [false; 131072];
+    let answer = grow_plan(strategy, slots, plan, from, count, records.len(), &mut heap);
+    write_answer(answer, &heap, records);
+    answer
 }
 
 // Marks the held numbers. They may be any: from 65536 on none is a key.
@@ -215,48 +264,26 @@ fn lacks_listed(list: &[u32; 32], count: usize, seen: &[bool; 65536]) -> bool
     false
 }
 
-// Whether a key with powers of two is not marked. There are at most 16 passes and 16 levels, so they
-// are never refused for want of room.
-fn lacks_power(ds: &[u32], slots: u32, width: u32, seen: &[bool; 65536]) -> bool
+// Whether a key with powers of two is not marked; the tree over the plan's giants stands in the heap.
+// There are at most 16 passes and 16 levels, so they are never refused for want of room.
+fn lacks_power(
+    ds: &[u32],
+    slots: u32,
+    width: u32,
+    bits: u32,
+    heap: &[bool; 131072],
+    seen: &[bool; 65536],
+) -> bool
     requires { ⌜ Sizable slots width (now ds) ⌝ }
+    requires { ⌜ Planted slots width (giantsOf width (now ds)) (now heap) bits ⌝ }
     requires { ⌜ length (now seen) ≡ 65536 ⌝ }
     ensures { λ r. ⌜ Lacking (planKeys slots (BsgsPowersOfTwo width) (now (ds .entry))) (now (seen .entry)) r ⌝ }
 {
     let mut list = [0u32; 32];
-    let ring::Answer::Is(count) = power_keys(ds, slots, width, &mut list) else {
+    let ring::Answer::Is(count) = power_keys(ds, slots, width, bits, heap, &mut list) else {
         return true;
     };
     lacks_listed(&list, count, seen)
-}
-
-// Whether a key of the plan is not marked.
-fn lacks_key(
-    ds: &[u32],
-    slots: u32,
-    strategy: LinearTransformationStrategy,
-    seen: &[bool; 65536],
-) -> bool
-    requires { ⌜ Accepted slots strategy (now ds) ⌝ }
-    requires { ⌜ length (now seen) ≡ 65536 ⌝ }
-    ensures { λ r. ⌜ Lacking (planKeys slots strategy (now (ds .entry))) (now (seen .entry)) r ⌝ }
-{
-    match strategy {
-        LinearTransformationStrategy::Bsgs { giant_step: g } => lacks_turn(ds, g as u32, seen),
-        LinearTransformationStrategy::BsgsPowersOfTwo { giant_step: g } => {
-            lacks_power(ds, slots, g as u32, seen)
-        }
-        LinearTransformationStrategy::Direct => lacks_turn(ds, 1, seen),
-    }
-}
-
-// Whether a key of the plan is not held.
-fn is_missing(ds: &[u32], slots: u32, strategy: LinearTransformationStrategy, held: &[u64]) -> bool
-    requires { ⌜ Accepted slots strategy (now ds) ⌝ }
-    ensures { λ r. ⌜ r ≡ isMissing (now (held .entry)) (planKeys slots strategy (now (ds .entry))) ⌝ }
-{
-    let mut seen = [false; 65536];
-    mark_held(held, &mut seen);
-    lacks_key(ds, slots, strategy, &seen)
 }
 
 // The pairs, from the giant switches: with powers of two a switch is made for each pair.
@@ -284,23 +311,73 @@ fn step_of(ds: &[u32], strategy: LinearTransformationStrategy) -> u32
     }
 }
 
-// The numbers of an accepted plan. Rotation 0 is always one of its babies and asks for no switch.
-fn needs_of(ds: &[u32], slots: u32, strategy: LinearTransformationStrategy) -> NeedsAnswer
+// The numbers of an accepted plan, from its giant switches and b. Rotation 0 is always one of its babies and
+// asks for no switch.
+fn needs_of(
+    ds: &[u32],
+    slots: u32,
+    strategy: LinearTransformationStrategy,
+    turns: usize,
+    bits: u32,
+) -> NeedsAnswer
     requires { ⌜ Accepted slots strategy (now ds) ⌝ }
+    requires { ⌜ Switches slots strategy (now ds) turns ⌝ }
+    requires { ⌜ bits ≡ bitsFor slots strategy (now ds) ⌝ }
     ensures { λ r. ⌜ r ≡ planNeeds 0 slots strategy (now (ds .entry)) ⌝ }
 {
     let made = baby_switches(ds, slots, strategy);
-    let turns = giant_switches(ds, slots, strategy);
     NeedsAnswer::Is {
         babies: made + 1,
         giants: count_giants(ds, word_width(strategy)),
         pairs: pairs_of(strategy, turns),
         switches: made + turns,
         step: step_of(ds, strategy),
+        bits: bits,
     }
 }
 
-// What a run by a plan of stored offsets needs: babies, giants, pairs, switches and the baby step.
+// What a run needs where each rotation has its own key.
+fn turn_needs(
+    ds: &[u32],
+    slots: u32,
+    strategy: LinearTransformationStrategy,
+    held: &[u64],
+) -> NeedsAnswer
+    requires { ⌜ Accepted slots strategy (now ds) ⌝ }
+    requires { ⌜ turnsEach strategy ≡ true ⌝ }
+    ensures { λ r. ⌜ r ≡ planNeeds (keysRefusal slots strategy (now (ds .entry)) (now (held .entry))) slots strategy (now (ds .entry)) ⌝ }
+{
+    let mut seen = [false; 65536];
+    mark_held(held, &mut seen);
+    if lacks_turn(ds, word_width(strategy), &seen) {
+        return NeedsAnswer::Refused(11);
+    }
+    needs_of(ds, slots, strategy, giant_switches(ds, slots, strategy), 0)
+}
+
+// The same with powers of two. The tree is planted once, for the keys and for the pairs.
+fn power_needs(
+    ds: &[u32],
+    slots: u32,
+    strategy: LinearTransformationStrategy,
+    held: &[u64],
+) -> NeedsAnswer
+    requires { ⌜ Accepted slots strategy (now ds) ⌝ }
+    requires { ⌜ turnsEach strategy ≡ false ⌝ }
+    ensures { λ r. ⌜ r ≡ planNeeds (keysRefusal slots strategy (now (ds .entry)) (now (held .entry))) slots strategy (now (ds .entry)) ⌝ }
+{
+    let width = word_width(strategy);
+    let mut seen = [false; 65536];
+    mark_held(held, &mut seen);
+    let mut heap = [false; 131072];
+    let bits = plant_plan(ds, slots, width, &mut heap);
+    if lacks_power(ds, slots, width, bits, &heap, &seen) {
+        return NeedsAnswer::Refused(11);
+    }
+    needs_of(ds, slots, strategy, tree_size(bits, &heap), bits)
+}
+
+// What a run by a plan of stored offsets needs: babies, giants, pairs, switches, the baby step and b.
 // Refuses with 1, 2 and 3 as `stored_plan`, with 11 where a key of the plan is not held.
 pub fn plan_needs(
     offsets: &[u32],
@@ -315,8 +392,8 @@ pub fn plan_needs(
         return NeedsAnswer::Refused(code);
     }
     let n = slots as u32;
-    if is_missing(offsets, n, strategy, held) {
-        return NeedsAnswer::Refused(11);
+    if turns_each(strategy) {
+        return turn_needs(offsets, n, strategy, held);
     }
-    needs_of(offsets, n, strategy)
+    power_needs(offsets, n, strategy, held)
 }

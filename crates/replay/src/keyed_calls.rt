@@ -1,6 +1,8 @@
 // The call of the keyed run. What it writes holds sevens before.
 use crate::numbers::narrowed;
 use crate::numbers::strategy;
+use crate::records::at_most;
+use crate::records::keyed_words;
 use crate::showing::show_narrow_out;
 use crate::showing::show_next;
 use crate::showing::show_out;
@@ -45,12 +47,12 @@ fn show_with_input(h: Head, t: Head, held: &[u64], input: &[u64], map: &[u64]) {
 
 fn show_run(h: Head, t: Head, held: &[u64], input: &[u64], m: Head, pairs: &[u32], values: &[u64]) {
     let mut plan = [7u32; 512];
-    let mut records = [7u32; 512];
+    let mut records = [0u32; 512];
     let mut cache = [7u64; 512];
     let mut nodes = [7u64; 512];
     let mut log = [7u32; 512];
     let mut out = [7u64; 512];
-    let a = runs::keyed::evaluate_keyed(
+    let a = keyed_words(
         m.n0,
         m.n1,
         pairs,
@@ -60,7 +62,8 @@ fn show_run(h: Head, t: Head, held: &[u64], input: &[u64], m: Head, pairs: &[u32
         held,
         h.n2 as u64,
         narrow_lent(&mut plan, h.n3),
-        narrow_lent(&mut records, h.n4),
+        h.n4,
+        &mut records,
         lent(&mut cache, h.n5),
         lent(&mut nodes, h.n6),
         narrow_lent(&mut log, t.n0),
@@ -68,7 +71,7 @@ fn show_run(h: Head, t: Head, held: &[u64], input: &[u64], m: Head, pairs: &[u32
     );
     show_keyed_answer(a);
     show_narrow_out(plan, h.n3);
-    show_narrow_out(records, h.n4);
+    show_narrow_out(records, 2 * at_most(h.n4));
     show_out(cache, h.n5);
     show_out(nodes, h.n6);
     show_narrow_out(log, t.n0);

@@ -8,6 +8,7 @@ mod number_calls;
 mod numbers;
 mod plan_calls;
 mod reading;
+mod records;
 mod showing;
 mod words;
 

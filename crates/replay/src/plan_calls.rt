@@ -1,6 +1,8 @@
 // The calls of plans and rotations. What a call writes holds sevens before.
 use crate::numbers::all_signed;
 use crate::numbers::strategy;
+use crate::records::at_most;
+use crate::records::tree_words;
 use crate::showing::show_answer;
 use crate::showing::show_listed;
 use crate::showing::show_narrow_out;
@@ -157,16 +159,17 @@ fn show_tree_answer(a: linear_transformation::TreeAnswer) {
 fn show_tree(r: linear_transformation::BsgsRotations, h: Head, list: &[i64]) {
     let mut leaves = [7u32; 512];
     let mut levels = [7u32; 512];
-    let mut pairs = [7u32; 512];
-    let a = linear_transformation::giant_tree(
+    let mut records = [0u32; 512];
+    let a = tree_words(
         r,
         list,
         narrow_lent(&mut leaves, h.n4),
         narrow_lent(&mut levels, h.n5),
-        narrow_lent(&mut pairs, h.n6),
+        h.n6,
+        &mut records,
     );
     show_tree_answer(a);
     show_narrow_out(leaves, h.n4);
     show_narrow_out(levels, h.n5);
-    show_narrow_out(pairs, h.n6);
+    show_narrow_out(records, 2 * at_most(h.n6));
 }

@@ -1,24 +1,26 @@
--- The giant switches: the loop over the giants, the search for a level and for a node's place, a pair, and the loop over pairs.
+-- The giant switches: the loop over the giants, and the walk over the places of all levels.
 -- Assumes nothing.
-use Prim.Native.Nat.{ℕ, suc, _+_, _-_, _*_, _≤_, _<_}
+use Prim.Native.Nat.{ℕ, _+_, _*_, _/_, _%_, _≤_, _<_}
 use mathlib.Core.Path.{_≡_, refl, sym, ap, _∙_}
-use mathlib.Core.Bool.{cond}
-use mathlib.Core.List.{List, [], _∷_}
+use mathlib.Core.Bool.{true, false}
+use mathlib.Core.List.{List}
+use mathlib.Core.Logic.{⊎-elim}
+use native.Mathlib.Nat.{not-suc-le-zero, mul-zero, mul-le-mul, eq-zero-or-pos, div-lt-iff-lt-mul, mod-lt}
 use native.Mathlib.Omega.{arith}
-use borrow.Author.Tests.{lt-ltb, le-ltb}
-use lib.Dec.{ltb}
-use lib.ListN.{length, getD, set, drop, length-drop}
-use lib.Seq.{getD-drop, drop-drop}
+use lib.ListN.{length, getD, set}
 use Rattle.ring.specs.Slots.{modulus}
+use Rattle.ring.specs.Searches.{below}
 use Rattle.ring.specs.Vectors.{tabulate}
+use Rattle.ring.specs.Laws.Below.{below-no, length-below-yes, below-mono, below-at}
 use Rattle.ring.specs.Laws.Lists.{each-at}
-use Rattle.runs.specs.Switches.{Switch, giant, rotationOf}
+use Rattle.ring.specs.Laws.Searches.{lt-or-ge}
+use Rattle.runs.specs.Switches.{Switch, rotationOf}
 use Rattle.runs.specs.Machines.{nodesAfter, putVector, turned, vectorAt}
 use Rattle.runs.specs.Laws.Places.{inside-first, length-putVector}
 use Rattle.runs.specs.Laws.Folds.{nodes-more}
 use Rattle.ring.specs.Laws.Rotations.{length-rotated}
 use Rattle.runs.specs.Steps.Keyed.{nodesBy, TurnAsked}
-use Rattle.runs.specs.Steps.Giants.{turnAt, TurnsAsked, GiantsTurned, levelIn, joinAt, PairAsked, PairsAsked, PairsJoined}
+use Rattle.runs.specs.Steps.Giants.{turnAt, TurnsAsked, GiantsTurned, leavesBy, startsAt, switchAt, starts, joinAt, PlaceAsked, PairAsked, PairJoined, PairsAsked, PairsJoined}
 use Rattle.runs.proofs.Putting.{Putting, putting-none, putting-more, putting-done}
 
 -- ---- switches and what they log, one after the other
@@ -67,51 +69,61 @@ module _ {gs : List ℕ} {start n slots logged : ℕ} {nodes log : List ℕ} (a 
       let e : p ≡ n = omega (arith, s .room) in
       record { turned = s .nodes ∙ ap (λ (x : ℕ). nodesBy modulus slots nodes (tabulate x switch)) e; logs = putting-done (s .logs) n e }
 
--- ---- the level of a pair
-
-level-step : (ws : List ℕ) (q : ℕ) → 2 ≤ length ws → levelIn ws q ≡ cond (ltb q (getD ws 1 0)) 0 (suc (levelIn (drop 2 ws) (q - getD ws 1 0)))
-level-step [] q h = absurd (omega arith)
-level-step (r ∷ []) q h = absurd (omega arith)
-level-step (r ∷ n ∷ ws) q h = refl
-
-level-short : (ws : List ℕ) (q : ℕ) → length ws < 2 → levelIn ws q ≡ 0
-level-short [] q h = refl
-level-short (r ∷ []) q h = refl
-level-short (r ∷ n ∷ ws) q h = absurd (omega arith)
-
-pub record Leveling (ws : List ℕ) (q left i : ℕ) : Type 0 where
-  pub is : levelIn ws q ≡ i + levelIn (drop (2 * i) ws) left
-  pub inside : 2 * i ≤ length ws
-
-module _ {ws : List ℕ} {q left i : ℕ} (v : Leveling ws q left i) where
-  module _ (h : 2 * i + 1 < length ws) {n : ℕ} (e : n ≡ getD ws (2 * i + 1) 0) where
-    here : getD (drop (2 * i) ws) 1 0 ≡ n
-    here = getD-drop (2 * i) ws 1 0 ∙ sym e
-
-    step : levelIn (drop (2 * i) ws) left ≡ cond (ltb left n) 0 (suc (levelIn (drop 2 (drop (2 * i) ws)) (left - n)))
-    step = level-step (drop (2 * i) ws) left (rw length-drop (omega arith)) ∙ rw here
-
-    pub level-found : left < n → i ≡ levelIn ws q
-    level-found l = sym (v .is ∙ rw (step, lt-ltb left n l) (omega arith))
-
-    pub leveling-more : n ≤ left → Leveling ws q (left - n) (i + 1)
-    leveling-more l =
-        record {
-          is = v .is ∙ rw (step, le-ltb left n l, drop-drop 2 (2 * i) ws) (let k : 2 * i + 2 ≡ 2 * (i + 1) = omega arith in rw k (omega arith));
-          inside = omega arith;
-        }
-
-  pub level-last : length ws ≤ 2 * i + 1 → i ≡ levelIn ws q
-  level-last h = sym (v .is ∙ rw (level-short (drop (2 * i) ws) left (rw length-drop (omega arith))) (omega arith))
-
 -- ---- the pairs, one after the other
 
--- a pair is asked about the length of the nodes alone
-pub pair-asked : {gs levels records : List ℕ} {width slots size n k j q : ℕ} → PairsAsked gs width slots size levels records n k → j ≡ k → q < n → PairAsked gs width slots size levels records j q
-pair-asked {q} a e l = rw e (a .each q l)
+-- the walk is at a place of the row, behind the first q starts
+pub record Walking (gs : List ℕ) (width slots size bits n logged : ℕ) (old new log log' : List ℕ) (q at : ℕ) : Type 0 where
+  pub switching : Switching (joinAt gs width slots size bits) slots logged n old new log log' q
+  pub count : q ≡ length (below (startsAt (leavesBy slots width size gs) (length gs)) at)
+  pub inside : at ≤ bits * length gs
 
-module _ {gs : List ℕ} {width slots size n logged : ℕ} {levels records nodes log : List ℕ} where
-  pub pairs-done : {new log' : List ℕ} {q : ℕ} → Switching (joinAt gs width slots size levels records) slots logged n nodes new log log' q → n ≤ q → PairsJoined gs width slots size levels records n nodes new log log' logged
-  pairs-done {new} {log'} {q} s h =
-      let e : q ≡ n = omega (arith, s .room) in
-      record { joined-all = s .nodes ∙ ap (λ (x : ℕ). nodesBy modulus slots nodes (tabulate x (joinAt gs width slots size levels records))) e; logs = putting-done (s .logs) n e }
+module _ {gs : List ℕ} {width slots size bits n logged k : ℕ} {old log : List ℕ} (a : PairsAsked gs width slots size bits n k) where
+  pub walking-none : logged ≤ length log → Walking gs width slots size bits n logged old old log log 0 0
+  unfolding below
+  walking-none h = record { switching = switching-none (joinAt gs width slots size bits) slots logged n old log h; count = refl; inside = omega arith }
+
+  pub walking-done : {new log' : List ℕ} {q at : ℕ} → Walking gs width slots size bits n logged old new log log' q at → n ≤ q → PairsJoined gs width slots size bits n old new log log' logged
+  walking-done {new} {log'} {q} w h =
+      let e : q ≡ n = omega (arith, w .switching .room) in
+      record { joined-all = w .switching .nodes ∙ ap (λ (x : ℕ). nodesBy modulus slots old (tabulate x (joinAt gs width slots size bits))) e; logs = putting-done (w .switching .logs) n e }
+
+  module _ {new log' : List ℕ} {q at : ℕ} (w : Walking gs width slots size bits n logged old new log log' q at) (l : q < n) where
+    -- not all are passed
+    pub at-low : at < bits * length gs
+    at-low =
+        ⊎-elim (λ (m : at < bits * length gs). m)
+        (λ (m : bits * length gs ≤ at). absurd (omega (arith, w .count, a .few, below-mono (startsAt (leavesBy slots width size gs) (length gs)) (bits * length gs) at m)))
+        (lt-or-ge at (bits * length gs))
+
+    pub at-small : at < 1048576
+    at-small = let m : bits * length gs ≤ 16 * 65536 = mul-le-mul (a .bits-low) (a .giants-low) in omega (arith, at-low)
+
+    pub many-some : 0 < length gs
+    many-some = ⊎-elim (λ (z : length gs ≡ 0). absurd (none z at-low)) (λ (m : 0 < length gs). m) (eq-zero-or-pos (length gs))
+      where
+        none : {x : ℕ} → x ≡ 0 → at < bits * x → ⊥
+        none z m = not-suc-le-zero (rw (z, mul-zero) at m)
+
+    pub row-low : at / length gs < bits
+    row-low = div-lt-iff-lt-mul many-some .1 at-low
+
+    pub place-asked : PlaceAsked gs width slots size (at / length gs) (at % length gs)
+    place-asked = record { leafy = a .leafy; inside = mod-lt at many-some; some = a .some; small = a .small; low = omega (arith, row-low, a .bits-low) }
+
+    pub pair-asked : {j : ℕ} → length old ≡ k → j ≡ length new → PairAsked gs width slots size bits (at / length gs) (at % length gs) j
+    pair-asked e f = record { placed = place-asked; small = a .bits-low; low = row-low; room = omega (arith, e, f, w .switching .len, a .room) }
+
+    pub walking-yes : {mid : List ℕ} {r : ℕ} → logged + n ≤ length log → startsAt (leavesBy slots width size gs) (length gs) at ≡ true → PairJoined gs width slots size bits (at / length gs) (at % length gs) new mid r
+        → Walking gs width slots size bits n logged old mid log (set log' (logged + q) r) (q + 1) (at + 1)
+    walking-yes {mid} {r} room t j =
+        let leaves = leavesBy slots width size gs in
+        let here : getD (starts leaves (length gs) bits) q 0 ≡ at = ap (λ (x : ℕ). getD (starts leaves (length gs) bits) x 0) (w .count) ∙ below-at (startsAt leaves (length gs)) (bits * length gs) at 0 at-low t in
+        let is : joinAt gs width slots size bits q ≡ switchAt slots width bits leaves (length gs) at = ap (switchAt slots width bits leaves (length gs)) here in
+        record {
+          switching = switching-more (w .switching) l room (j .nodes ∙ ap (nodesAfter modulus slots new) (sym is)) (j .len) (j .turn ∙ ap rotationOf (sym is));
+          count = omega (arith, w .count, length-below-yes (startsAt leaves (length gs)) at t);
+          inside = omega (arith, at-low);
+        }
+
+    pub walking-no : startsAt (leavesBy slots width size gs) (length gs) at ≡ false → Walking gs width slots size bits n logged old new log log' q (at + 1)
+    walking-no t = record { switching = w .switching; count = w .count ∙ ap length (sym (below-no (startsAt (leavesBy slots width size gs) (length gs)) at t)); inside = omega (arith, at-low) }

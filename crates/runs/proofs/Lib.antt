@@ -15,10 +15,11 @@ pub mod NodeAnswers
 pub mod FromBabies
 pub mod FromNodes
 pub mod FromGiants
-pub mod TreePairs
 pub mod FromPairs
 pub mod LookingOver
 pub mod PlanWriting
+pub mod NodeTurning
 pub mod Running
 pub mod Machining
 pub mod KeyedRunning
+pub mod Recording

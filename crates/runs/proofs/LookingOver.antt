@@ -35,7 +35,7 @@ use Rattle.runs.specs.Steps.Surveys.{surveyRefusal, noSurvey, takes, sur
 -- the survey that an answer about needs becomes
 abbrev pub surveyFrom : ℕ → NeedsAnswer → Survey
 surveyFrom count (Refused e) = noSurvey e
-surveyFrom count (Is b g p s t) = record { refusal = 0; diagonals = count; babies = b; giants = g; pairs = p; switches = s; step = t }
+surveyFrom count (Is b g p s t n) = record { refusal = 0; diagonals = count; babies = b; giants = g; pairs = p; switches = s; step = t; bits = n }
 
 needs-surveyed : (e slots : ℕ) (strategy : LinearTransformationStrategy) (ks : List ℕ) (count : ℕ) → surveyFrom count (planNeeds e slots strategy ks) ≡ surveyed e slots strategy ks count
 unfolding planNeeds takes

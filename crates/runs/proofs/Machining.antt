@@ -106,8 +106,8 @@ front-put xs ys old n e = put-both 0 n xs ys old (omega arith) (omega (arith, e)
 
 -- ---- the run
 
-module _ {strategy : LinearTransformationStrategy} {survey : Survey} {bits : ℕ} {pairs values input plan levels records cache nodes log out : List ℕ}
-    (a : RunAsked strategy survey bits pairs values input plan levels records cache nodes log out) where
+module _ {strategy : LinearTransformationStrategy} {survey : Survey} {offsets pairs values input plan cache nodes log out : List ℕ}
+    (a : RunAsked strategy survey offsets pairs values input plan cache nodes log out) where
   abbrev slots : ℕ
   slots = length input
 
@@ -142,19 +142,15 @@ module _ {strategy : LinearTransformationStrategy} {survey : Survey} {bits : ℕ
     pub first-logged : first ≤ length log
     first-logged = omega (arith, a .log-room, all-switches a)
 
-    pub again : {cache' log' : List ℕ} → length cache' ≡ length cache → length log' ≡ length log → RunAsked strategy survey bits pairs values input plan levels records cache' nodes log' out
+    pub again : {cache' log' : List ℕ} → length cache' ≡ length cache → length log' ≡ length log → RunAsked strategy survey offsets pairs values input plan cache' nodes log' out
     again c l =
         record {
           taken = a .taken;
           survey-is = a .survey-is;
-          bits-are = a .bits-are;
+          offsets-are = a .offsets-are;
           old-plan = a .old-plan;
           plan-is = a .plan-is;
           plan-room = a .plan-room;
-          old-levels = a .old-levels;
-          levels-are = a .levels-are;
-          old-records = a .old-records;
-          records-are = a .records-are;
           cache-room = omega (arith, a .cache-room);
           nodes-room = a .nodes-room;
           log-room = omega (arith, a .log-room);

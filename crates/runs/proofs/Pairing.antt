@@ -1,13 +1,14 @@
 -- A pair of the tree: the leaves of the giants, the search for a node's place, and the switch.
 -- Assumes nothing.
-use Prim.Native.Nat.{ℕ, _+_, _-_, _*_, _%_, _^_, _≤_, _<_}
-use mathlib.Core.Path.{_≡_, sym, ap, subst, _∙_}
-use mathlib.Core.Bool.{true, false, not}
+use Prim.Native.Nat.{ℕ, zero, suc, _+_, _-_, _*_, _/_, _%_, _^_, _≤_, _<_}
+use mathlib.Core.Path.{_≡_, refl, sym, ap, subst, _∙_}
+use mathlib.Core.Bool.{true, false, not, true≢false}
+use mathlib.Core.Logic.{⊎-elim}
 use mathlib.Core.List.{List}
-use native.Mathlib.Nat.{mod-eq-of-lt, mul-le-mul-right, le-div-iff-mul-le, div-lt-iff-lt-mul}
+use native.Mathlib.Nat.{mod-eq-of-lt, le-div-iff-mul-le, div-lt-iff-lt-mul, div-le-self, div-mul-le-self}
 use native.Mathlib.Decide.{decLt, ℕ-discrete}
 use native.Mathlib.Omega.{arith}
-use borrow.Author.Tests.{eq-eqb}
+use borrow.Author.Tests.{eq-eqb, ne-eqb, le-ltb, lt-leb}
 use lib.Dec.{eqb}
 use lib.Pow.{pow-pos}
 use lib.ListN.{length, getD, length-map}
@@ -19,24 +20,29 @@ use Rattle.ring.specs.Slots.{modulus}
 use Rattle.ring.specs.Residues.{residueOf}
 use Rattle.ring.specs.Laws.Lists.{each-at}
 use Rattle.ring.specs.Laws.Refusals.{not-outside}
-use Rattle.ring.specs.Laws.Residues.{residue-pos}
+use Rattle.ring.specs.Laws.Residues.{residue-pos, residue-lt}
+use Rattle.ring.specs.Laws.Searches.{lt-or-ge}
+use Rattle.ring.specs.Answers.{answered}
+use Rattle.ring.specs.declared.Answer.{Answer}
+use Rattle.ring.specs.declared.Answer.the-variants as Got
+use Rattle.ring.specs.Laws.Answers.{no-refused, same-value}
 use Rattle.ring.specs.Laws.Rotations.{length-rotated}
 use Rattle.linear_transformation.specs.declared.digits.DigitAnswer.{DigitAnswer}
 use Rattle.linear_transformation.specs.declared.digits.DigitAnswer.the-variants.{Refused, Is}
 use Rattle.linear_transformation.specs.declared.digits.Digit.{Digit}
-use Rattle.linear_transformation.specs.Digits.{digit, rotOf, Giant}
-use Rattle.linear_transformation.specs.Calls.{digitRefusal, digitAnswered}
+use Rattle.linear_transformation.specs.Digits.{digit, rotOf, Giant, levelRotation}
+use Rattle.linear_transformation.specs.Calls.{digitRefusal, digitAnswered, levelRefusal}
 use Rattle.linear_transformation.specs.Laws.Bits.{digit-small}
 use Rattle.runs.specs.Switches.{nodePlace}
 use Rattle.runs.specs.Machines.{putVector, turned, summed, vectorAt}
 use Rattle.runs.specs.Laws.Places.{inside-first, length-putVector}
 use Rattle.linear_transformation.specs.Laws.Runs.{rising-at}
-use Rattle.runs.specs.Laws.NodePlaces.{NodeFirst, node-first, node-before}
+use Rattle.runs.specs.Laws.NodePlaces.{there-at, NodeFirst, node-first}
 use Rattle.runs.specs.Laws.Turnings.{length-summed}
 use Rattle.runs.specs.Laws.Elements.{mapped-at}
 use Rattle.runs.specs.Steps.Keyed.{TurnAsked, AddTurn}
 use Rattle.runs.proofs.TwoRuns.{apart}
-use Rattle.runs.specs.Steps.Giants.{levelIn, leafBy, leavesBy, LeafAsked, NodeAsked, PairAsked, PairJoined}
+use Rattle.runs.specs.Steps.Giants.{leafBy, leavesBy, LeafAsked, NodeAsked, nodeAt, startsPair, hasEven, PlaceAsked, TurnOfAsked, PairAsked, PairJoined}
 
 -- ---- leaves
 
@@ -126,74 +132,149 @@ module _ {gs : List ℕ} {width slots size level node : ℕ} (a : NodeAsked gs w
   pub locating-done : {low high : ℕ} → Locating place (length gs) low high → high ≤ low → low ≡ place
   locating-done v h = omega (arith, v .from, v .to)
 
--- ---- the switch of a pair
+-- ---- a place of a level
 
-module _ {gs : List ℕ} {width slots size q n : ℕ} {levels records : List ℕ} (a : PairAsked gs width slots size levels records n q) where
-  abbrev level : ℕ
-  level = levelIn levels q
-
-  abbrev odd : ℕ
-  odd = getD records (2 * q) 0
-
-  abbrev turn : ℕ
-  turn = getD levels (2 * level) 0
-
+module _ {gs : List ℕ} {width slots size level place : ℕ} (a : PlaceAsked gs width slots size level place) where
   abbrev leavesOf : List ℕ
   leavesOf = leavesBy slots width size gs
-
-  pub odd-asked : {l o : ℕ} → l ≡ level → o ≡ odd → NodeAsked gs width slots size l o
-  odd-asked e f = rw (e, f) (record { leafy = a .leafy; there-is = a .odd-there; small = a .small; low = a .level-low })
-
-  pub even-asked : {l o : ℕ} → l ≡ level → o ≡ odd → not (eqb (getD records (2 * q + 1) 0) 0) ≡ true → NodeAsked gs width slots size l (o - 1)
-  even-asked e f h =
-      rw (e, f) (record { leafy = a .leafy; there-is = a .even-there h; small = omega (arith, a .small, fewer); low = a .level-low })
-    where
-      fewer : (odd - 1) * 2 ^ level ≤ odd * 2 ^ level
-      fewer = mul-le-mul-right (2 ^ level) (omega arith)
 
   leaves-many : length leavesOf ≡ length gs
   leaves-many = length-map gs (leafBy slots width size)
 
-  module _ (nodes : List ℕ) (len : length nodes ≡ n) {l o r : ℕ} (e : l ≡ level) (f : o ≡ odd) (p : r ≡ nodePlace leavesOf l o) {k : ℕ} (t : k ≡ getD levels (2 * l) 0) where
-    turn-is : k ≡ turn
-    turn-is = t ∙ ap (λ (x : ℕ). getD levels (2 * x) 0) e
+  pub place-leaf : LeafAsked (getD gs place 0) width slots size
+  place-leaf = record { slots-in = a .leafy .slots-in; width-in = a .leafy .width-in; is = each-at (λ g. Giant slots width (record { 0 = g })) gs 0 (a .leafy .each) place (a .inside) }
 
-    odd-place : r ≡ nodePlace leavesOf level odd
-    odd-place = p ∙ rw (e, f)
+  leaf-there : getD leavesOf place 0 ≡ leafBy slots width size (getD gs place 0)
+  leaf-there = mapped-at (leafBy slots width size) gs place 0 0 (a .inside)
 
-    odd-room : r * slots + slots ≤ length nodes
-    odd-room = inside-first slots nodes (length gs) r (omega (arith, a .room)) (rw odd-place (omega (arith, node-first leavesOf (a .leafy .rises) level odd (a .odd-there) .inside, leaves-many))) .room
+  leaf-low : getD leavesOf place 0 < 65536
+  leaf-low = rw leaf-there (omega (arith, residue-lt (digit slots width (record { 0 = getD gs place 0 }) .0) size (a .some), a .small))
+
+  pub node-is : {l : ℕ} → l ≡ leafBy slots width size (getD gs place 0) → l / 2 ^ level ≡ nodeAt leavesOf level place
+  node-is e = ap (λ (x : ℕ). x / 2 ^ level) (e ∙ sym leaf-there)
+
+  pub node-small : nodeAt leavesOf level place < 65536
+  node-small = omega (arith, leaf-low, div-le-self (getD leavesOf place 0) (2 ^ level))
+
+  pub before-asked : PlaceAsked gs width slots size level (place - 1)
+  before-asked = record { leafy = a .leafy; inside = omega (arith, a .inside); some = a .some; small = a .small; low = a .low }
+
+  -- the node above it is searched for, and stands there or before
+  pub node-asked : {n : ℕ} → n ≡ nodeAt leavesOf level place → NodeAsked gs width slots size level n
+  node-asked e =
+      rw e
+      (record {
+        leafy = a .leafy;
+        there-is = there-at leavesOf level place (omega (arith, a .inside, leaves-many));
+        small = omega (arith, leaf-low, div-mul-le-self (getD leavesOf place 0) (2 ^ level));
+        low = a .low;
+      })
+
+  pub node-up-to : nodePlace leavesOf level (nodeAt leavesOf level place) ≤ place
+  node-up-to =
+      let f = node-first leavesOf (a .leafy .rises) level (nodeAt leavesOf level place) (there-at leavesOf level place (omega (arith, a .inside, leaves-many))) in
+      ⊎-elim (λ (m : place < nodePlace leavesOf level (nodeAt leavesOf level place)). absurd (omega (arith, f .before place m)))
+      (λ (m : nodePlace leavesOf level (nodeAt leavesOf level place) ≤ place). m)
+      (lt-or-ge place (nodePlace leavesOf level (nodeAt leavesOf level place)))
+
+-- whether a pair starts there
+module _ (leaves : List ℕ) (level : ℕ) where
+  pub starts-not : (place : ℕ) {node : ℕ} → node ≡ nodeAt leaves level place → (node % 2 ≡ 1 → ⊥) → false ≡ startsPair leaves level place
+  unfolding startsPair
+  starts-not place e n = rw (ne-eqb (nodeAt leaves level place % 2) 1 (λ q. n (ap (λ (x : ℕ). x % 2) e ∙ q)))
+
+  pub starts-zero : (place : ℕ) {node : ℕ} → node ≡ nodeAt leaves level place → node % 2 ≡ 1 → place ≡ 0 → true ≡ startsPair leaves level place
+  unfolding startsPair
+  starts-zero place e o z = rw (eq-eqb (nodeAt leaves level place % 2) 1 (ap (λ (x : ℕ). x % 2) (sym e) ∙ o), z)
+
+  pub starts-later : (place : ℕ) {node before : ℕ} → node ≡ nodeAt leaves level place → node % 2 ≡ 1 → (place ≡ 0 → ⊥) → before ≡ nodeAt leaves level (place - 1) → not (eqb before node) ≡ startsPair leaves level place
+  unfolding startsPair
+  starts-later zero e o z q = absurd (z refl)
+  starts-later (suc place) e o z q =
+      let p : suc place - 1 ≡ place = omega arith in
+      rw (eq-eqb (nodeAt leaves level (suc place) % 2) 1 (ap (λ (x : ℕ). x % 2) (sym e) ∙ o), e, q, p)
+
+  pub even-zero : (place : ℕ) → place ≡ 0 → false ≡ hasEven leaves level place
+  unfolding hasEven
+  even-zero place z = rw z
+
+  pub even-later : (place : ℕ) {node before : ℕ} → node ≡ nodeAt leaves level place → (place ≡ 0 → ⊥) → before ≡ nodeAt leaves level (place - 1) → eqb (before + 1) node ≡ hasEven leaves level place
+  unfolding hasEven
+  even-later zero e z q = absurd (z refl)
+  even-later (suc place) e z q =
+      let p : suc place - 1 ≡ place = omega arith in
+      rw (e, q, p)
+
+  pub even-some : (place : ℕ) → hasEven leaves level place ≡ true → 1 ≤ place
+  unfolding hasEven
+  even-some zero h = absurd (true≢false (sym h))
+  even-some (suc place) h = omega arith
+
+-- ---- the rotation of a level
+
+turn-under : (slots width bits level : ℕ) → 0 < slots → levelRotation slots width bits level .0 < slots
+unfolding levelRotation
+turn-under slots width bits level p = residue-lt _ slots p
+
+module _ {bits level width slots : ℕ} (a : TurnOfAsked bits level width slots) {r : Answer} (e : r ≡ answered (levelRefusal slots width bits level) (levelRotation slots width bits level .0)) where
+  turn-given : r ≡ Got.Is (levelRotation slots width bits level .0)
+  turn-given = e ∙ rw (not-outside slots (a .slots-in .low) (a .slots-in .high), not-outside width (a .width-in .low) (a .width-in .high), le-ltb 16 bits (a .small), lt-leb bits level (a .low))
+
+  pub turn-is : {k : ℕ} → r ≡ Got.Is k → k ≡ levelRotation slots width bits level .0
+  turn-is h = same-value (sym h ∙ turn-given)
+
+  pub turn-small : {k : ℕ} → r ≡ Got.Is k → k < 65536
+  turn-small h = omega (arith, turn-is h, turn-under slots width bits level (a .slots-in .low), a .slots-in .high)
+
+  pub turn-refused : {x : ℕ} → r ≡ Got.Refused x → ⊥
+  turn-refused h = no-refused (sym h ∙ turn-given)
+
+-- ---- the switch of a pair
+
+module _ {gs : List ℕ} {width slots size bits level place n : ℕ} (a : PairAsked gs width slots size bits level place n) where
+  abbrev turn : ℕ
+  turn = levelRotation slots width bits level .0
+
+  pub turn-asked : TurnOfAsked bits level width slots
+  turn-asked = record { slots-in = a .placed .leafy .slots-in; width-in = a .placed .leafy .width-in; small = a .small; low = a .low }
+
+  pub even-asked : {o : ℕ} → o ≡ nodeAt (leavesBy slots width size gs) level (place - 1) → NodeAsked gs width slots size level o
+  even-asked e = node-asked (before-asked (a .placed)) e
+
+  module _ (nodes : List ℕ) (len : length nodes ≡ n) {k r : ℕ} (t : r ≡ levelRotation slots width bits level .0) (u : k ≡ r) where
+    odd-room : place * slots + slots ≤ length nodes
+    odd-room = inside-first slots nodes (length gs) place (omega (arith, a .room)) (a .placed .inside) .room
 
     turn-low : k < slots
-    turn-low = rw turn-is (a .turn-low)
+    turn-low = rw (u ∙ t) (turn-under slots width bits level (a .placed .leafy .slots-in .low))
 
     -- with no even
-    pub alone-asked : TurnAsked slots nodes r k
+    pub alone-asked : TurnAsked slots nodes place k
     alone-asked = record { low = turn-low; room = odd-room }
 
-    pub alone : not (eqb (getD records (2 * q + 1) 0) 0) ≡ false → {new : List ℕ} → new ≡ putVector slots nodes r (turned slots (vectorAt slots nodes r) k) → PairJoined gs width slots size levels records q nodes new (getD levels (2 * l) 0)
+    pub alone : hasEven (leavesBy slots width size gs) level place ≡ false → {new : List ℕ} → new ≡ putVector slots nodes place (turned slots (vectorAt slots nodes place) k) → PairJoined gs width slots size bits level place nodes new r
     alone h w =
         record {
-          nodes = w ∙ rw (h, odd-place, turn-is);
-          turn = sym t ∙ turn-is;
-          len = ap length w ∙ length-putVector slots (turned slots (vectorAt slots nodes r) k) (length-rotated _ _ slots) (record { room = odd-room });
+          nodes = w ∙ rw (h, u ∙ t);
+          turn = t;
+          len = ap length w ∙ length-putVector slots (turned slots (vectorAt slots nodes place) k) (length-rotated _ _ slots) (record { room = odd-room });
         }
 
     -- with an even
-    module _ (h : not (eqb (getD records (2 * q + 1) 0) 0) ≡ true) {s : ℕ} (i : s ≡ nodePlace leavesOf l (o - 1)) where
-      even-place : s ≡ nodePlace leavesOf level (odd - 1)
-      even-place = i ∙ rw (e, f)
+    module _ (h : hasEven (leavesBy slots width size gs) level place ≡ true) {o s : ℕ} (e : o ≡ nodeAt (leavesBy slots width size gs) level (place - 1)) (i : s ≡ nodePlace (leavesBy slots width size gs) level o) where
+      even-place : s ≡ nodePlace (leavesBy slots width size gs) level (nodeAt (leavesBy slots width size gs) level (place - 1))
+      even-place = i ∙ ap (nodePlace (leavesBy slots width size gs) level) e
 
-      before : s < r
-      before = rw (even-place, odd-place) (node-before leavesOf (a .leafy .rises) level (odd - 1) odd (a .even-there h) (a .odd-there) (omega (arith, a .odd-some)))
+      before : s < place
+      before = omega (arith, even-place, node-up-to (before-asked (a .placed)), even-some (leavesBy slots width size gs) level place h)
 
-      pub both-asked : AddTurn slots nodes s r k
+      pub both-asked : AddTurn slots nodes s place k
       both-asked = record { low = turn-low; order = before; room = odd-room }
 
-      pub both : {new : List ℕ} → new ≡ putVector slots nodes s (summed modulus slots (vectorAt slots nodes s) (turned slots (vectorAt slots nodes r) k)) → PairJoined gs width slots size levels records q nodes new (getD levels (2 * l) 0)
+      pub both : {new : List ℕ} → new ≡ putVector slots nodes s (summed modulus slots (vectorAt slots nodes s) (turned slots (vectorAt slots nodes place) k)) → PairJoined gs width slots size bits level place nodes new r
       both w =
           record {
-            nodes = w ∙ rw (h, even-place, odd-place, turn-is);
-            turn = sym t ∙ turn-is;
-            len = ap length w ∙ length-putVector slots (summed modulus slots (vectorAt slots nodes s) (turned slots (vectorAt slots nodes r) k)) (length-summed modulus slots _ _) (record { room = omega (arith, odd-room, apart slots s r before) });
+            nodes = w ∙ rw (h, even-place, u ∙ t);
+            turn = t;
+            len = ap length w ∙ length-putVector slots (summed modulus slots (vectorAt slots nodes s) (turned slots (vectorAt slots nodes place) k)) (length-summed modulus slots _ _) (record { room = omega (arith, odd-room, apart slots s place before) });
           }

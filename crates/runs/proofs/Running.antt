@@ -1,30 +1,25 @@
 -- The run by a plan that is written: what its parts ask follows from the plan, and what they leave is the machine's.
 -- Assumes nothing.
-use Prim.Native.Nat.{ℕ, zero, suc, _+_, _-_, _*_, _%_, _^_, _≤_, _<_, min}
+use Prim.Native.Nat.{ℕ, zero, suc, _+_, _-_, _*_, _≤_, _<_, min}
 use mathlib.Core.Path.{_≡_, refl, sym, ap, _∙_}
 use mathlib.Core.List.{List, [], _∷_, _++_, map}
-use native.Mathlib.Nat.{mod-eq-of-lt, one-mul}
 use native.Mathlib.Decide.{decLt}
 use native.Mathlib.Omega.{arith}
 use borrow.Author.Tests.{lt-ltb, le-ltb}
-use lib.Pow.{pow-lt}
 use lib.ListN.{length, take, drop}
 use lib.Seq.{take-all, length-take-le}
 use Rattle.ring.specs.Slots.{modulus}
 use Rattle.ring.specs.Lists.{join}
 use Rattle.ring.specs.Refusals.{Range}
-use Rattle.ring.specs.Vectors.{tabulate, inFront, putAt}
-use Rattle.ring.specs.Laws.Vectors.{map-tabulate}
+use Rattle.ring.specs.Vectors.{inFront, putAt}
 use Rattle.diagonals.specs.Maps.{offsetsOf, view}
 use Rattle.linear_transformation.specs.declared.LinearTransformationStrategy.{LinearTransformationStrategy}
-use Rattle.linear_transformation.specs.declared.LinearTransformationStrategy.the-variants.{Bsgs, BsgsPowersOfTwo, Direct}
 use Rattle.linear_transformation.specs.Plans.{Distinct, Planned, widthOf, giants, planPairs}
 use Rattle.linear_transformation.specs.Closures.{nonzeros}
-use Rattle.linear_transformation.specs.Schedules.{planBabies, planGiants, planWords, planTree, planSwitches}
-use Rattle.linear_transformation.specs.Stored.{stepOf}
+use Rattle.linear_transformation.specs.Schedules.{planBabies, planGiants, planWords, planSwitches}
+use Rattle.linear_transformation.specs.Stored.{stepOf, bitsFor}
 use Rattle.linear_transformation.specs.Laws.Plans.{width-positive, words-length}
 use Rattle.linear_transformation.specs.Laws.Runs.{planned-length, giants-few}
-use Rattle.linear_transformation.specs.Laws.Stored.{tree-bits-low}
 use Rattle.diagonals.specs.Laws.Maps.{count-low}
 use Rattle.runs.specs.declared.keyed.Survey.{Survey}
 use Rattle.runs.specs.Switches.{rotationOf, babySchedule, giantSchedule}
@@ -35,10 +30,9 @@ use Rattle.runs.specs.Laws.NodeRuns.{map-planned}
 use Rattle.runs.specs.Laws.PassSchedules.{baby-count, giant-count}
 use Rattle.runs.specs.Laws.PlanWords.{babies-read, giants-read, pairs-read}
 use Rattle.runs.specs.Laws.Schedules.{plan-babies-front, plan-babies-rise, plan-babies-low}
-use Rattle.runs.specs.Steps.Giants.{GiantsTurned, PairsJoined}
 use Rattle.runs.specs.Steps.Nodes.{NodesAsked, NodesMade}
-use Rattle.runs.specs.Steps.Surveys.{takes, bitsBy, Taken, Sized}
-use Rattle.runs.specs.Steps.Runs.{AnswerAsked, answerBy, switchBy, TurningAsked, NodesTurned, RunAsked, turnedNodes, GiantsLeft}
+use Rattle.runs.specs.Steps.Surveys.{takes, Taken, Sized}
+use Rattle.runs.specs.Steps.Runs.{AnswerAsked, answerBy, TurningAsked, NodesTurned, RunAsked, turnedNodes, GiantsLeft}
 use Rattle.runs.proofs.FromNodes.{nodes-of, nodes-made}
 use Rattle.runs.proofs.FromGiants as Own
 use Rattle.runs.proofs.FromPairs as Powers
@@ -61,21 +55,6 @@ sized {strategy} {survey} {count} {pairs} {values} {input} slots t e =
       diagonals-low = omega (arith, count-low (t .formed), r .high);
     })
 
--- there are at most 16 levels
-few-bits : (slots : ℕ) (strategy : LinearTransformationStrategy) (ks : List ℕ) → slots ≤ 65536 → 0 < widthOf strategy → bitsBy slots strategy ks ≤ 16
-few-bits slots (Bsgs width) ks l w = omega arith
-few-bits slots (BsgsPowersOfTwo width) ks l w = tree-bits-low slots width ks w l
-few-bits slots Direct ks l w = omega arith
-
--- ---- by the step
-
-pub turned-own : (step turns width size made slots : ℕ) {gs levels records nodes nodes' log log' : List ℕ} (logged : ℕ) → step ≡ 0 → GiantsTurned gs (length gs - turns) made slots nodes nodes' log log' logged → NodesTurned step turns width size made slots gs levels records nodes nodes' log log' logged
-turned-own step turns width size made slots logged e t = record { turned = t .turned ∙ rw e; logs = t .logs ∙ rw e }
-
-pub turned-powers : (step turns width size made slots : ℕ) {gs levels records nodes nodes' log log' : List ℕ} (logged : ℕ) → (step ≡ 0 → ⊥) → PairsJoined gs width slots size levels records made nodes nodes' log log' logged → NodesTurned step turns width size made slots gs levels records nodes nodes' log log' logged
-turned-powers zero turns width size made slots logged h t = absurd (h refl)
-turned-powers (suc c) turns width size made slots logged h t = record { turned = t .joined-all; logs = t .logs }
-
 -- the first n, or all where there are fewer
 pub take-least : {A : Type 0} (xs : List A) (n k : ℕ) → k ≡ min n (length xs) → take k xs ≡ take n xs
 take-least xs n k e = by (decLt n (length xs))
@@ -84,8 +63,8 @@ take-least xs n k e = by (decLt n (length xs))
     by (yes l) = ap (λ (x : ℕ). take x xs) (let q : k ≡ n = omega arith in q)
     by (no l) = take-all k xs (omega arith) ∙ sym (take-all n xs (omega arith))
 
-module _ {strategy : LinearTransformationStrategy} {survey : Survey} {bits : ℕ} {pairs values input plan levels records cache nodes log out : List ℕ}
-    (a : RunAsked strategy survey bits pairs values input plan levels records cache nodes log out) where
+module _ {strategy : LinearTransformationStrategy} {survey : Survey} {offsets pairs values input plan cache nodes log out : List ℕ}
+    (a : RunAsked strategy survey offsets pairs values input plan cache nodes log out) where
   abbrev slots : ℕ
   slots = length input
 
@@ -122,6 +101,13 @@ module _ {strategy : LinearTransformationStrategy} {survey : Survey} {bits : ℕ
   unfolding takes
   step-is = ap (λ (s : Survey). s .step) (a .survey-is)
 
+  pub step-told : survey .step ≡ stepOf slots strategy offsets
+  step-told = step-is ∙ rw (a .offsets-are)
+
+  pub bits-told : survey .bits ≡ bitsFor slots strategy offsets
+  unfolding takes
+  bits-told = ap (λ (s : Survey). s .bits) (a .survey-is) ∙ rw (a .offsets-are)
+
   own-are : survey .babies - 1 ≡ length (nonzeros (planBabies slots strategy ks))
   own-are = rw babies-are (cache-room slots (range .low) (range .high) strategy ks)
 
@@ -132,6 +118,9 @@ module _ {strategy : LinearTransformationStrategy} {survey : Survey} {bits : ℕ
   unfolding planSwitches
   all-switches = omega (arith, switches-are, own-are, giant-count slots strategy ks)
 
+  pub turns-told : survey .switches - (survey .babies - 1) ≡ length (giantSchedule slots strategy offsets)
+  turns-told = rw (a .offsets-are) (omega (arith, all-switches))
+
   pub some-baby : 1 ≤ survey .babies
   some-baby = omega (arith, babies-are, ap length (plan-babies-front slots (range .high) (range .low) strategy ks))
 
@@ -140,9 +129,6 @@ module _ {strategy : LinearTransformationStrategy} {survey : Survey} {bits : ℕ
 
   pub sizes : Sized survey slots
   sizes = sized slots (a .taken) (a .survey-is)
-
-  pub bits-low : bits < 32
-  bits-low = omega (arith, a .bits-are, few-bits slots strategy ks (range .high) wide)
 
   -- ---- the plan's words
 
@@ -183,65 +169,38 @@ module _ {strategy : LinearTransformationStrategy} {survey : Survey} {bits : ℕ
 
     -- ---- the giant switches
 
-    module _ (n : ℕ) (from : survey .babies - 1 ≤ n) {limit width : ℕ} (e : limit ≡ min n (survey .switches)) (w : width ≡ widthOf strategy) (size : ℕ) (z : size ≡ 1 * 2 ^ bits % 4294967296) where
+    module _ (n : ℕ) (from : survey .babies - 1 ≤ n) {limit : ℕ} (e : limit ≡ min n (survey .switches)) where
       abbrev gs : List ℕ
       gs = take (survey .babies + survey .giants - survey .babies) (drop (survey .babies) plan)
 
       abbrev count : ℕ
       count = limit - (survey .babies - 1)
 
-      abbrev turns : ℕ
-      turns = survey .switches - (survey .babies - 1)
-
-      turns-are : turns ≡ length (giantSchedule slots strategy ks)
-      turns-are = omega (arith, all-switches)
-
       count-fits : count ≤ length (giantSchedule slots strategy ks)
       count-fits = omega (arith, all-switches)
 
-      made-room : length (planGiants slots strategy ks) * slots ≤ length made
-      made-room = omega (arith, roomy, len)
-
-      log-room : survey .babies - 1 + count ≤ length log
-      log-room = omega (arith, a .log-room, own-low)
-
-      -- b as the tree has it
-      size-is : 1 ≤ stepOf slots strategy ks → size ≡ 2 ^ planTree slots (widthOf strategy) ks .bits
-      size-is h =
-          let b : bits ≡ planTree slots (widthOf strategy) ks .bits = a .bits-are ∙ rw (Powers.powers slots strategy ks h) in
-          let low : 2 ^ bits < 4294967296 = pow-lt (let q : bits < 32 = omega (arith, b, tree-bits-low slots (widthOf strategy) ks wide (range .high)) in q) in
-          z ∙ rw (one-mul (2 ^ bits)) (mod-eq-of-lt low) ∙ ap (λ (x : ℕ). 2 ^ x) b
-
-      pub turning-asked : TurningAsked (survey .step) turns width size count slots gs levels records made log (survey .babies - 1)
+      pub turning-asked : TurningAsked strategy count slots offsets gs made log (survey .babies - 1)
       turning-asked =
-          record {
-            own = λ s.
-                let q : stepOf slots strategy ks ≡ 0 = sym step-is ∙ s in
-                rw (giants-part, turns-are) (Own.giants-fewer slots strategy ks q, Own.turns-of slots strategy ks q count count-fits made log (survey .babies - 1) made-room log-room);
-            powers = λ s.
-                let q : 1 ≤ stepOf slots strategy ks = rw step-is at s in
-                rw (giants-part, w) (Powers.pairs-of slots strategy ks q levels records (a .old-levels) (a .old-records) size (a .levels-are) (a .records-are) (size-is q) count count-fits range (a .taken .width) distinct (length made) made-room);
-            log-room = log-room;
-          }
+          rw (a .offsets-are)
+          (record {
+            range = range;
+            width = a .taken .width;
+            distinct = distinct;
+            giants-are = giants-part;
+            few = count-fits;
+            room = rw giants-part (omega (arith, roomy, len));
+            log-room = omega (arith, a .log-room, own-low);
+          })
 
       scheduled : take count (giantSchedule slots strategy ks) ≡ take (n - (survey .babies - 1)) (giantSchedule slots strategy ks)
       scheduled = take-least (giantSchedule slots strategy ks) (n - (survey .babies - 1)) count (omega (arith, all-switches))
 
-      switches-by : (step : ℕ) → step ≡ stepOf slots strategy ks → tabulate count (switchBy step turns width size slots gs levels records) ≡ take count (giantSchedule slots strategy ks)
-      switches-by zero q = rw (giants-part, turns-are) (Own.giants-by slots strategy ks (sym q) count count-fits)
-      switches-by (suc c) q =
-          let s : 1 ≤ stepOf slots strategy ks = omega (arith, q) in
-          rw (giants-part, w) (Powers.pairs-by slots strategy ks s levels records (a .old-levels) (a .old-records) size (a .levels-are) (a .records-are) (size-is s) count count-fits)
+      module _ {nodes' log' : List ℕ} (t : NodesTurned strategy count slots offsets made nodes' log log' (survey .babies - 1)) where
+        turned-are : nodes' ≡ turnedNodes strategy survey n pairs values input cache nodes
+        turned-are = t .turned ∙ rw (a .offsets-are, scheduled, nodes-are)
 
-      logged-by : (step : ℕ) → step ≡ stepOf slots strategy ks → tabulate count (λ q. rotationOf (switchBy step turns width size slots gs levels records q)) ≡ map rotationOf (take count (giantSchedule slots strategy ks))
-      logged-by step q = sym (map-tabulate rotationOf count (switchBy step turns width size slots gs levels records)) ∙ ap (map rotationOf) (switches-by step q)
-
-      module _ {nodes' log' : List ℕ} (t : NodesTurned (survey .step) turns width size count slots gs levels records made nodes' log log' (survey .babies - 1)) where
-        pub turned-are : nodes' ≡ turnedNodes strategy survey n pairs values input cache nodes
-        turned-are = t .turned ∙ rw (switches-by (survey .step) step-is, scheduled, nodes-are)
-
-        pub log-is : log' ≡ putAt (survey .babies - 1) (map rotationOf (take (n - (survey .babies - 1)) (giantSchedule slots strategy ks))) log
-        log-is = t .logs ∙ rw (logged-by (survey .step) step-is, scheduled)
+        log-is : log' ≡ putAt (survey .babies - 1) (map rotationOf (take (n - (survey .babies - 1)) (giantSchedule slots strategy ks))) log
+        log-is = t .logs ∙ rw (a .offsets-are, scheduled)
 
         -- not finished
         pub unfinished : n < survey .switches → GiantsLeft strategy survey n pairs values input cache nodes nodes' log log' out out

@@ -164,7 +164,7 @@ module _ {slots count count' : ℕ} {pairs pairs' values values' input input' : 
   pub record SameSchedule : Type 0 where
     pub answers : r ≡ r'
     pub plan-words : mapPlan slots strategy (mapOf k) ≡ mapPlan slots strategy (mapOf k')
-    pub record-words : planRecords slots strategy (offsetsOf (mapOf k)) ≡ planRecords slots strategy (offsetsOf (mapOf k'))
+    pub pair-records : planRecords slots strategy (offsetsOf (mapOf k)) ≡ planRecords slots strategy (offsetsOf (mapOf k'))
     pub log-words : rotations k ≡ rotations k'
     pub plan : old .plan ≡ old' .plan → new .plan ≡ new' .plan
     pub records : old .records ≡ old' .records → new .records ≡ new' .records
@@ -175,7 +175,7 @@ module _ {slots count count' : ℕ} {pairs pairs' values values' input input' : 
       record {
         answers = run-answer k a ∙ answered-alike slots strategy n (mapOf k) (mapOf k') e ∙ sym (run-answer k' b);
         plan-words = rw e;
-        record-words = rw e;
+        pair-records = rw e;
         log-words = rw e;
         plan = λ q. every-word k a .plan ∙ rw (e, q) (sym (every-word k' b .plan));
         records = λ q. every-word k a .records ∙ rw (e, q) (sym (every-word k' b .records));

@@ -12,6 +12,7 @@ use Rattle.ring.specs.Refusals.{firstOf, onAccept}
 use Rattle.diagonals.specs.Maps.{Diagonal, offsetsOf, view}
 use Rattle.diagonals.specs.Calls.{mapRefusals}
 use Rattle.linear_transformation.specs.declared.LinearTransformationStrategy.{LinearTransformationStrategy}
+use Rattle.linear_transformation.specs.declared.records.PairRecord.{PairRecord}
 use Rattle.linear_transformation.specs.Strategies.{widthOutside}
 use Rattle.linear_transformation.specs.Trees.{flag}
 use Rattle.linear_transformation.specs.Stored.{isMissing, pairCount, planRecords}
@@ -25,13 +26,13 @@ use Rattle.runs.specs.Machines.{State, machine}
 -- what is lent to be written: plan, pair records, and the state
 pub record Lent : Type 0 where
   pub plan : List ℕ
-  pub records : List ℕ
+  pub records : List PairRecord
   pub cache : List ℕ
   pub nodes : List ℕ
   pub log : List ℕ
   pub out : List ℕ
 
-abbrev pub lent : List ℕ → List ℕ → List ℕ → List ℕ → List ℕ → List ℕ → Lent
+abbrev pub lent : List ℕ → List PairRecord → List ℕ → List ℕ → List ℕ → List ℕ → Lent
 lent plan records cache nodes log out = record { plan = plan; records = records; cache = cache; nodes = nodes; log = log; out = out }
 
 abbrev pub lentState : Lent → State
@@ -43,7 +44,7 @@ keyedRoom slots strategy ds words =
     let b = length (mapBabies slots strategy ds) in
     let g = length (mapGiants slots strategy ds) in
     (ltb (length (words .plan)) (b + 3 * g + length ds), 12)
-    ∷ (ltb (length (words .records)) (2 * pairCount slots strategy (offsetsOf ds)), 12)
+    ∷ (ltb (length (words .records)) (pairCount slots strategy (offsetsOf ds)), 12)
     ∷ (ltb (length (words .cache)) ((b - 1) * slots), 12)
     ∷ (ltb (length (words .nodes)) (g * slots), 12)
     ∷ (ltb (length (words .log)) (mapSwitches slots strategy ds), 12)

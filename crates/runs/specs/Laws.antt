@@ -16,7 +16,7 @@ pub mod Folds
 pub mod Elements
 pub mod NodeRuns
 pub mod PlanWords
-pub mod PairSchedules
+pub mod PairStarts
 pub mod Answers
 pub mod Finished
 pub mod KeysUsed

@@ -10,7 +10,8 @@ use Rattle.linear_transformation.specs.declared.LinearTransformationStrategy.{L
 use Rattle.linear_transformation.specs.declared.LinearTransformationStrategy.the-variants.{Bsgs, BsgsPowersOfTwo, Direct}
 use Rattle.linear_transformation.specs.Plans.{giants}
 use Rattle.linear_transformation.specs.Closures.{closure, Pass, passes, nonzeros}
-use Rattle.linear_transformation.specs.Trees.{there, Pair, Level, Tree}
+use Rattle.linear_transformation.specs.declared.records.PairRecord.{PairRecord}
+use Rattle.linear_transformation.specs.Trees.{there, Level, Tree}
 use Rattle.linear_transformation.specs.Schedules.{babyStep, babyMultiples, planBabies, planTree}
 
 -- the place of k in a list: that of the first element that is k
@@ -81,10 +82,10 @@ nodePlace leaves zero n = placeOf n leaves
 nodePlace leaves (suc i) n = cond (there leaves i (2 * n)) (nodePlace leaves i (2 * n)) (nodePlace leaves i (2 * n + 1))
 
 -- the switch of a pair of level i
-abbrev pub evenPlace : List ℕ → ℕ → Pair → Even
-evenPlace leaves i p = cond (p .even-there) (at (nodePlace leaves i (p .odd - 1))) none
+abbrev pub evenPlace : List ℕ → ℕ → PairRecord → Even
+evenPlace leaves i p = cond (p .«even_there») (at (nodePlace leaves i (p .odd - 1))) none
 
-abbrev pub joined : List ℕ → ℕ → ℕ → Pair → Switch
+abbrev pub joined : List ℕ → ℕ → ℕ → PairRecord → Switch
 joined leaves i rotation p = pair (nodePlace leaves i (p .odd)) (evenPlace leaves i p) rotation
 
 -- levels upward from level i on, pairs in order

@@ -1,12 +1,11 @@
 // The giant switches: per rotation each giant's node is rotated in its place; with powers of two the
 // nodes of the tree are joined in pairs, level after level.
 ghost use mathlib.Core.Path.{_≡_};
-ghost use mathlib.Core.Bool.{not};
-ghost use lib.Dec.{eqb};
-ghost use lib.ListN.{length, getD};
-ghost use Prim.Native.Nat.{_*_, _+_, _≤_};
+ghost use lib.ListN.{length};
+ghost use Prim.Native.Nat.{_+_, _≤_};
+ghost use Rattle.linear_transformation.specs.Digits.{levelRotation};
 ghost use Rattle.runs.specs.Switches.{nodePlace};
-ghost use Rattle.runs.specs.Steps.Giants.{TurnsAsked, GiantsTurned, levelIn, LeafAsked, leafBy, leavesBy, NodeAsked, RecordAsked, PairAsked, PairJoined, PairsAsked, PairsJoined};
+ghost use Rattle.runs.specs.Steps.Giants.{TurnsAsked, GiantsTurned, LeafAsked, leafBy, leavesBy, NodeAsked, nodeAt, startsPair, hasEven, PlaceAsked, TurnOfAsked, PairAsked, PairJoined, PairsAsked, PairsJoined};
 use crate::turning::add_turned;
 use crate::turning::rotate_at;
 
@@ -29,23 +28,6 @@ pub(crate) fn turn_giants(
         rotate_at(nodes, slots, place, ring::wide(g));
         log[logged + p] = g;
     }
-}
-
-// The level of the q-th pair: two words a level, its rotation and its number of pairs.
-fn level_at(levels: &[u32], q: usize) -> usize
-    ensures { λ r. ⌜ r ≡ levelIn (now (levels .entry)) q ⌝ }
-{
-    let mut left = q;
-    let mut i = 0;
-    while i < levels.len() / 2 {
-        let n = ring::wide(levels[2 * i + 1]);
-        if left < n {
-            return i;
-        }
-        left -= n;
-        i += 1;
-    }
-    i
 }
 
 // The leaf of a giant in a tree of `size` leaves.
@@ -86,42 +68,85 @@ fn node_place(
     low
 }
 
-// The q-th pair record: its odd node, and whether the even one is there.
-fn odd_at(records: &[u32], q: usize) -> u32
-    requires { ⌜ RecordAsked (now records) q ⌝ }
-    ensures { λ r. ⌜ r ≡ getD (now (records .entry)) (2 * q) 0 ⌝ }
+// The node of a level above the giant at a place.
+fn node_at(giants: &[u32], width: usize, slots: usize, size: u32, level: usize, place: usize) -> u32
+    requires { ⌜ PlaceAsked (now giants) width slots size level place ⌝ }
+    ensures { λ r. ⌜ r ≡ nodeAt (leavesBy slots width size (now (giants .entry))) level place ⌝ }
 {
-    records[2 * q]
+    leaf_of(giants[place], width, slots, size) >> level as u32
 }
 
-fn has_even(records: &[u32], q: usize) -> bool
-    requires { ⌜ RecordAsked (now records) q ⌝ }
-    ensures { λ r. ⌜ r ≡ not (eqb (getD (now (records .entry)) (2 * q + 1) 0) 0) ⌝ }
+// Whether a pair of a level starts with the giant at a place: the first under an odd node.
+fn starts_pair(
+    giants: &[u32],
+    width: usize,
+    slots: usize,
+    size: u32,
+    level: usize,
+    place: usize,
+) -> bool
+    requires { ⌜ PlaceAsked (now giants) width slots size level place ⌝ }
+    ensures { λ r. ⌜ r ≡ startsPair (leavesBy slots width size (now (giants .entry))) level place ⌝ }
 {
-    records[2 * q + 1] != 0
+    let node = node_at(giants, width, slots, size, level, place);
+    if node % 2 != 1 {
+        return false;
+    }
+    if place == 0 {
+        return true;
+    }
+    node_at(giants, width, slots, size, level, place - 1) != node
 }
 
-// The switch of the q-th pair, and its rotation: the odd's vector, rotated, is added to the even's and
-// keeps its own place; with no even it is rotated itself.
+// Whether the even node of that pair is there: the giant before is under it.
+fn has_even(
+    giants: &[u32],
+    width: usize,
+    slots: usize,
+    size: u32,
+    level: usize,
+    place: usize,
+) -> bool
+    requires { ⌜ PlaceAsked (now giants) width slots size level place ⌝ }
+    ensures { λ r. ⌜ r ≡ hasEven (leavesBy slots width size (now (giants .entry))) level place ⌝ }
+{
+    if place == 0 {
+        return false;
+    }
+    let before = node_at(giants, width, slots, size, level, place - 1);
+    before + 1 == node_at(giants, width, slots, size, level, place)
+}
+
+// The rotation of a level.
+fn turn_of_level(bits: u32, level: u32, width: usize, slots: usize) -> u32
+    requires { ⌜ TurnOfAsked bits level width slots ⌝ }
+    ensures { λ r. ⌜ r ≡ levelRotation slots width bits level .0 ⌝ }
+{
+    match linear_transformation::tree_rotation(bits, level, width, slots) {
+        ring::Answer::Is(k) => k as u32,
+        ring::Answer::Refused(_) => 0,
+    }
+}
+
+// The switch of the pair that starts at a place of a level, and its rotation: the odd's vector, rotated,
+// is added to the even's and keeps its own place; with no even it is rotated itself.
 fn join_pair(
     giants: &[u32],
     width: usize,
     slots: usize,
     size: u32,
-    levels: &[u32],
-    records: &[u32],
-    q: usize,
+    bits: u32,
+    level: usize,
+    place: usize,
     nodes: &mut [u64],
 ) -> u32
-    requires { ⌜ PairAsked (now giants) width slots size (now levels) (now records) (length (now nodes)) q ⌝ }
-    ensures { λ r. ⌜ PairJoined (now (giants .entry)) width slots size (now (levels .entry)) (now (records .entry)) q (now (nodes .entry)) (now (nodes .exit)) r ⌝ }
+    requires { ⌜ PairAsked (now giants) width slots size bits level place (length (now nodes)) ⌝ }
+    ensures { λ r. ⌜ PairJoined (now (giants .entry)) width slots size bits level place (now (nodes .entry)) (now (nodes .exit)) r ⌝ }
 {
-    let level = level_at(levels, q);
-    let turn = levels[2 * level];
-    let odd = odd_at(records, q);
-    let place = node_place(giants, width, slots, size, level, odd);
-    if has_even(records, q) {
-        let even = node_place(giants, width, slots, size, level, odd - 1);
+    let turn = turn_of_level(bits, level as u32, width, slots);
+    if has_even(giants, width, slots, size, level, place) {
+        let node = node_at(giants, width, slots, size, level, place - 1);
+        let even = node_place(giants, width, slots, size, level, node);
         add_turned(nodes, slots, even, place, ring::wide(turn));
         return turn;
     }
@@ -129,25 +154,32 @@ fn join_pair(
     turn
 }
 
-// With powers of two: the first n pairs of all levels.
+// With powers of two: the first n pairs of all levels, in a walk over the places of each level.
 pub(crate) fn join_pairs(
     giants: &[u32],
     width: usize,
     slots: usize,
     size: u32,
-    levels: &[u32],
-    records: &[u32],
+    bits: u32,
     n: usize,
     nodes: &mut [u64],
     log: &mut [u32],
     logged: usize,
 )
-    requires { ⌜ PairsAsked (now giants) width slots size (now levels) (now records) n (length (now nodes)) ⌝ }
+    requires { ⌜ PairsAsked (now giants) width slots size bits n (length (now nodes)) ⌝ }
     requires { ⌜ logged + n ≤ length (now log) ⌝ }
-    ensures { λ _. ⌜ PairsJoined (now (giants .entry)) width slots size (now (levels .entry)) (now (records .entry)) n (now (nodes .entry)) (now (nodes .exit)) (now (log .entry)) (now (log .exit)) logged ⌝ }
+    ensures { λ _. ⌜ PairsJoined (now (giants .entry)) width slots size bits n (now (nodes .entry)) (now (nodes .exit)) (now (log .entry)) (now (log .exit)) logged ⌝ }
 {
-    for q in 0..n {
-        let turn = join_pair(giants, width, slots, size, levels, records, q, nodes);
-        log[logged + q] = turn;
+    let mut q = 0;
+    let mut at = 0;
+    while q < n {
+        let level = at / giants.len();
+        let place = at % giants.len();
+        if starts_pair(giants, width, slots, size, level, place) {
+            let turn = join_pair(giants, width, slots, size, bits, level, place, nodes);
+            log[logged + q] = turn;
+            q += 1;
+        }
+        at += 1;
     }
 }

@@ -5,10 +5,12 @@ ghost use lib.ListN.{length};
 ghost use Rattle.ring.specs.Refusals.{firstOf};
 ghost use Prim.Native.Nat.{_-_, _≤_, min};
 ghost use Rattle.diagonals.specs.Maps.{view};
-ghost use Rattle.runs.specs.Keyed.{lent, keyedLeft, KeyedRun};
-ghost use Rattle.runs.specs.Steps.Surveys.{noSurvey, Surveyed, Sized, PlanAsked, PlanLeft};
+ghost use Rattle.linear_transformation.specs.Stored.{stepOf, bitsFor};
+ghost use Rattle.runs.specs.Switches.{giantSchedule};
+ghost use Rattle.runs.specs.Keyed.{lent, KeyedRun};
+ghost use Rattle.runs.specs.Steps.Surveys.{noSurvey, Surveyed, Sized};
 ghost use Rattle.runs.specs.Steps.Runs.{TurningAsked, NodesTurned, RunAsked, GiantsLeft, RunLeft};
-ghost use Rattle.runs.specs.Steps.Ready.{surveyRoom, Ready, Small, answeredBy};
+ghost use Rattle.runs.specs.Steps.Ready.{surveyRoom, Ready, AcceptedLeft, Small, answeredBy, babiesIn, giantsIn, CoreRun};
 use crate::answering::give_answer;
 use crate::caching::make_babies;
 use crate::giants::join_pairs;
@@ -16,7 +18,8 @@ use crate::giants::turn_giants;
 use crate::nodes::make_nodes;
 use linear_transformation::LinearTransformationStrategy;
 use linear_transformation::NeedsAnswer;
-use linear_transformation::TreeAnswer;
+use linear_transformation::PairRecord;
+use linear_transformation::plan_records;
 
 // How many switches were made and whether these are all; how many babies, giants and diagonals the plan
 // has, and how many pairs its tree.
@@ -33,7 +36,7 @@ pub enum KeyedAnswer {
 }
 
 // A refusal, or what the run by a plan takes: its diagonals, babies, giants, pairs and switches, and the
-// baby step (0 where each rotation has its own key).
+// baby step and b of the tree (0 where each rotation has its own key).
 pub(crate) struct Survey {
     pub(crate) refusal: u32,
     pub(crate) diagonals: usize,
@@ -42,6 +45,7 @@ pub(crate) struct Survey {
     pub(crate) pairs: usize,
     pub(crate) switches: usize,
     pub(crate) step: u32,
+    pub(crate) bits: u32,
 }
 
 fn refused(code: u32) -> Survey
@@ -55,6 +59,7 @@ fn refused(code: u32) -> Survey
         pairs: 0,
         switches: 0,
         step: 0,
+        bits: 0,
     }
 }
 
@@ -92,6 +97,7 @@ fn look_over(
             pairs: p,
             switches: s,
             step: t,
+            bits: n,
         } => {
             Survey {
                 refusal: 0,
@@ -101,29 +107,30 @@ fn look_over(
                 pairs: p,
                 switches: s,
                 step: t,
+                bits: n,
             }
         }
     }
 }
 
-// 12 where a lent output is shorter than its whole result, else 0.
+// 12 where a lent output is shorter than its whole result, else 0; `room` pair records are lent.
 fn room_refusal(
     survey: Survey,
     slots: usize,
     plan: &[u32],
-    records: &[u32],
+    room: usize,
     cache: &[u64],
     nodes: &[u64],
     log: &[u32],
     out: &[u64],
 ) -> u32
     requires { ⌜ Sized survey slots ⌝ }
-    ensures { λ r. ⌜ r ≡ firstOf (surveyRoom survey slots (lent (now (plan .entry)) (now (records .entry)) (now (cache .entry)) (now (nodes .entry)) (now (log .entry)) (now (out .entry)))) ⌝ }
+    ensures { λ r. ⌜ r ≡ firstOf (surveyRoom survey slots room (now (plan .entry)) (now (cache .entry)) (now (nodes .entry)) (now (log .entry)) (now (out .entry))) ⌝ }
 {
     if plan.len() < survey.babies + 3 * survey.giants + survey.diagonals {
         return 12;
     }
-    if records.len() / 2 < survey.pairs {
+    if room < survey.pairs {
         return 12;
     }
     if cache.len() < (survey.babies - 1) * slots {
@@ -141,58 +148,40 @@ fn room_refusal(
     0
 }
 
-// Plan, pair records and levels of an accepted map, and b of its tree (0 per rotation).
-fn write_plan(
-    offsets: &[u32],
-    slots: usize,
-    strategy: LinearTransformationStrategy,
-    plan: &mut [u32],
-    records: &mut [u32],
-    levels: &mut [u32],
-) -> u32
-    requires { ⌜ PlanAsked slots strategy (now offsets) (now plan) (now records) (now levels) ⌝ }
-    ensures { λ r. ⌜ PlanLeft slots strategy (now (offsets .entry)) (now (plan .entry)) (now (plan .exit)) (now (records .entry)) (now (records .exit)) (now (levels .entry)) (now (levels .exit)) r ⌝ }
-{
-    let _planned = linear_transformation::stored_plan(offsets, slots, strategy, plan);
-    match linear_transformation::stored_tree(offsets, slots, strategy, levels, records) {
-        TreeAnswer::Is { bits: b, pairs: _ } => b,
-        TreeAnswer::NoTree => 0,
-        TreeAnswer::Refused(_) => 0,
-    }
-}
-
 // The first `made` of the giant switches, `turns` in all, with their rotations in the log from `logged`
 // on. Step 0 says that each rotation has its own key; a giant 0, if there is one, stands first and is
-// not turned.
+// not turned. With powers of two the pairs of the tree are joined, whose b is `bits`.
 fn turn_nodes(
     step: u32,
+    bits: u32,
     turns: usize,
-    width: usize,
-    size: u32,
+    strategy: LinearTransformationStrategy,
     made: usize,
     slots: usize,
+    offsets: &[u32],
     giants: &[u32],
-    levels: &[u32],
-    records: &[u32],
     nodes: &mut [u64],
     log: &mut [u32],
     logged: usize,
 )
-    requires { ⌜ TurningAsked step turns width size made slots (now giants) (now levels) (now records) (now nodes) (now log) logged ⌝ }
-    ensures { λ _. ⌜ NodesTurned step turns width size made slots (now (giants .entry)) (now (levels .entry)) (now (records .entry)) (now (nodes .entry)) (now (nodes .exit)) (now (log .entry)) (now (log .exit)) logged ⌝ }
+    requires { ⌜ TurningAsked strategy made slots (now offsets) (now giants) (now nodes) (now log) logged ⌝ }
+    requires { ⌜ step ≡ stepOf slots strategy (now offsets) ⌝ }
+    requires { ⌜ bits ≡ bitsFor slots strategy (now offsets) ⌝ }
+    requires { ⌜ turns ≡ length (giantSchedule slots strategy (now offsets)) ⌝ }
+    ensures { λ _. ⌜ NodesTurned strategy made slots (now (offsets .entry)) (now (nodes .entry)) (now (nodes .exit)) (now (log .entry)) (now (log .exit)) logged ⌝ }
 {
     if step == 0 {
         let start = giants.len() - turns;
         turn_giants(giants, start, made, slots, nodes, log, logged);
         return;
     }
+    let width = linear_transformation::width_of(strategy);
     join_pairs(
         giants,
         width,
         slots,
-        size,
-        levels,
-        records,
+        1u32 << bits,
+        bits,
         made,
         nodes,
         log,
@@ -205,20 +194,18 @@ fn turn_nodes(
 fn run_giants<'a>(
     strategy: LinearTransformationStrategy,
     survey: Survey,
-    bits: u32,
     n: usize,
+    offsets: &[u32],
     pairs: &[u32],
     values: &[u64],
     input: &'a [u64],
     plan: &[u32],
-    levels: &[u32],
-    records: &[u32],
     cache: &'a [u64],
     nodes: &mut [u64],
     log: &mut [u32],
     out: &mut [u64],
 )
-    requires { ⌜ RunAsked strategy survey bits (now pairs) (now values) (now input) (now plan) (now levels) (now records) (now cache) (now nodes) (now log) (now out) ⌝ }
+    requires { ⌜ RunAsked strategy survey (now offsets) (now pairs) (now values) (now input) (now plan) (now cache) (now nodes) (now log) (now out) ⌝ }
     requires { ⌜ survey .babies - 1 ≤ n ⌝ }
     ensures { λ _. ⌜ GiantsLeft strategy survey n (now (pairs .entry)) (now (values .entry)) (now (input .entry)) (now (cache .entry)) (now (nodes .entry)) (now (nodes .exit)) (now (log .entry)) (now (log .exit)) (now (out .entry)) (now (out .exit)) ⌝ }
 {
@@ -241,14 +228,13 @@ fn run_giants<'a>(
     let turns = survey.switches - own;
     turn_nodes(
         survey.step,
+        survey.bits,
         turns,
-        linear_transformation::width_of(strategy),
-        1u32 << bits,
+        strategy,
         made,
         slots,
+        offsets,
         &plan[b..g],
-        levels,
-        records,
         nodes,
         log,
         own,
@@ -263,20 +249,18 @@ fn run_giants<'a>(
 fn run_plan(
     strategy: LinearTransformationStrategy,
     survey: Survey,
-    bits: u32,
     n: usize,
+    offsets: &[u32],
     pairs: &[u32],
     values: &[u64],
     input: &[u64],
     plan: &[u32],
-    levels: &[u32],
-    records: &[u32],
     cache: &mut [u64],
     nodes: &mut [u64],
     log: &mut [u32],
     out: &mut [u64],
 )
-    requires { ⌜ RunAsked strategy survey bits (now pairs) (now values) (now input) (now plan) (now levels) (now records) (now cache) (now nodes) (now log) (now out) ⌝ }
+    requires { ⌜ RunAsked strategy survey (now offsets) (now pairs) (now values) (now input) (now plan) (now cache) (now nodes) (now log) (now out) ⌝ }
     ensures { λ _. ⌜ RunLeft strategy survey n (now (pairs .entry)) (now (values .entry)) (now (input .entry)) (now (cache .entry)) (now (cache .exit)) (now (nodes .entry)) (now (nodes .exit)) (now (log .entry)) (now (log .exit)) (now (out .entry)) (now (out .exit)) ⌝ }
 {
     let b = survey.babies;
@@ -289,14 +273,12 @@ fn run_plan(
     run_giants(
         strategy,
         survey,
-        bits,
         n,
+        offsets,
         pairs,
         values,
         input,
         plan,
-        levels,
-        records,
         cache,
         nodes,
         log,
@@ -304,7 +286,7 @@ fn run_plan(
     );
 }
 
-// An accepted run: plan, records, and the machine after n switches.
+// An accepted run: the plan, and the machine after n switches.
 fn run_accepted(
     strategy: LinearTransformationStrategy,
     survey: Survey,
@@ -315,28 +297,24 @@ fn run_accepted(
     values: &[u64],
     input: &[u64],
     plan: &mut [u32],
-    records: &mut [u32],
     cache: &mut [u64],
     nodes: &mut [u64],
     log: &mut [u32],
     out: &mut [u64],
 )
-    requires { ⌜ Ready strategy survey slots (now offsets) (now pairs) (now values) (now input) (lent (now plan) (now records) (now cache) (now nodes) (now log) (now out)) ⌝ }
-    ensures { λ _. ⌜ lent (now (plan .exit)) (now (records .exit)) (now (cache .exit)) (now (nodes .exit)) (now (log .exit)) (now (out .exit)) ≡ keyedLeft slots strategy (view (survey .diagonals) (now (pairs .entry)) (now (values .entry))) (now (input .entry)) (lent (now (plan .entry)) (now (records .entry)) (now (cache .entry)) (now (nodes .entry)) (now (log .entry)) (now (out .entry))) n ⌝ }
+    requires { ⌜ Ready strategy survey slots (now offsets) (now pairs) (now values) (now input) (now plan) (now cache) (now nodes) (now log) (now out) ⌝ }
+    ensures { λ _. ⌜ AcceptedLeft slots strategy (view (survey .diagonals) (now (pairs .entry)) (now (values .entry))) (now (input .entry)) n (now (plan .entry)) (now (plan .exit)) (now (cache .entry)) (now (cache .exit)) (now (nodes .entry)) (now (nodes .exit)) (now (log .entry)) (now (log .exit)) (now (out .entry)) (now (out .exit)) ⌝ }
 {
-    let mut levels = [0u32; 32];
-    let bits = write_plan(offsets, slots, strategy, plan, records, &mut levels);
+    let _planned = linear_transformation::stored_plan(offsets, slots, strategy, plan);
     run_plan(
         strategy,
         survey,
-        bits,
         n,
+        offsets,
         pairs,
         values,
         input,
         plan,
-        &levels,
-        records,
         cache,
         nodes,
         log,
@@ -371,20 +349,20 @@ fn run_listed(
     n: u64,
     offsets: &mut [u32],
     plan: &mut [u32],
-    records: &mut [u32],
+    room: usize,
     cache: &mut [u64],
     nodes: &mut [u64],
     log: &mut [u32],
     out: &mut [u64],
 ) -> KeyedAnswer
     requires { ⌜ min count 65536 ≤ length (now offsets) ⌝ }
-    ensures { λ r. ⌜ KeyedRun slots count (now (pairs .entry)) (now (values .entry)) (now (input .entry)) strategy (now (held .entry)) n (lent (now (plan .entry)) (now (records .entry)) (now (cache .entry)) (now (nodes .entry)) (now (log .entry)) (now (out .entry))) (lent (now (plan .exit)) (now (records .exit)) (now (cache .exit)) (now (nodes .exit)) (now (log .exit)) (now (out .exit))) r ⌝ }
+    ensures { λ r. ⌜ CoreRun slots count (now (pairs .entry)) (now (values .entry)) (now (input .entry)) strategy (now (held .entry)) n room (now (plan .entry)) (now (plan .exit)) (now (cache .entry)) (now (cache .exit)) (now (nodes .entry)) (now (nodes .exit)) (now (log .entry)) (now (log .exit)) (now (out .entry)) (now (out .exit)) r ⌝ }
 {
     let survey = look_over(slots, count, pairs, values, input, strategy, held, offsets);
     if survey.refusal != 0 {
         return KeyedAnswer::Refused(survey.refusal);
     }
-    let code = room_refusal(survey, slots, plan, records, cache, nodes, log, out);
+    let code = room_refusal(survey, slots, plan, room, cache, nodes, log, out);
     if code != 0 {
         return KeyedAnswer::Refused(code);
     }
@@ -400,7 +378,6 @@ fn run_listed(
         values,
         input,
         plan,
-        records,
         cache,
         nodes,
         log,
@@ -409,13 +386,13 @@ fn run_listed(
     answer_of(survey, limit)
 }
 
-// The keyed run, allowed n switches: writes plan and pair records in full, two words a pair, and leaves
-// in cache, nodes, log and out what document 01's machine leaves after n switches; finished, out begins
-// with the product. Refuses with 1 or 2 a map, with 3 a strategy's width, with 7 an input that is not
-// slots long, with 11 a key rotation of the plan that is not on the held list, and with 12 an output
-// that is shorter than its whole result; then every word is as it was. A short list of offsets costs
-// little to clear, so few diagonals have one of their own.
-pub fn evaluate_keyed(
+// The keyed run but for the pair records, of which `room` are lent: allowed n switches, it writes the
+// plan in full and leaves in cache, nodes, log and out what document 01's machine leaves after n
+// switches; finished, out begins with the product. Refuses with 1 or 2 a map, with 3 a strategy's width,
+// with 7 an input that is not slots long, with 11 a key rotation of the plan that is not on the held
+// list, and with 12 an output that is shorter than its whole result; then every word is as it was. A
+// short list of offsets costs little to clear, so few diagonals have one of their own.
+pub(crate) fn run_keyed(
     slots: usize,
     count: usize,
     pairs: &[u32],
@@ -425,13 +402,13 @@ pub fn evaluate_keyed(
     held: &[u64],
     n: u64,
     plan: &mut [u32],
-    records: &mut [u32],
+    room: usize,
     cache: &mut [u64],
     nodes: &mut [u64],
     log: &mut [u32],
     out: &mut [u64],
 ) -> KeyedAnswer
-    ensures { λ r. ⌜ KeyedRun slots count (now (pairs .entry)) (now (values .entry)) (now (input .entry)) strategy (now (held .entry)) n (lent (now (plan .entry)) (now (records .entry)) (now (cache .entry)) (now (nodes .entry)) (now (log .entry)) (now (out .entry))) (lent (now (plan .exit)) (now (records .exit)) (now (cache .exit)) (now (nodes .exit)) (now (log .exit)) (now (out .exit))) r ⌝ }
+    ensures { λ r. ⌜ CoreRun slots count (now (pairs .entry)) (now (values .entry)) (now (input .entry)) strategy (now (held .entry)) n room (now (plan .entry)) (now (plan .exit)) (now (cache .entry)) (now (cache .exit)) (now (nodes .entry)) (now (nodes .exit)) (now (log .entry)) (now (log .exit)) (now (out .entry)) (now (out .exit)) r ⌝ }
 {
     if count <= 1024 {
         let mut few = [0u32; 1024];
@@ -446,7 +423,7 @@ pub fn evaluate_keyed(
             n,
             &mut few,
             plan,
-            records,
+            room,
             cache,
             nodes,
             log,
@@ -465,10 +442,87 @@ pub fn evaluate_keyed(
         n,
         &mut offsets,
         plan,
-        records,
+        room,
         cache,
         nodes,
         log,
         out,
     )
+}
+
+// How many babies and giants an answer tells, 0 where it refuses.
+pub(crate) fn babies_in(answer: KeyedAnswer) -> usize
+    ensures { λ r. ⌜ r ≡ babiesIn answer ⌝ }
+{
+    match answer {
+        KeyedAnswer::Refused(_) => 0,
+        KeyedAnswer::Is {
+            switches: _,
+            finished: _,
+            babies: b,
+            giants: _,
+            diagonals: _,
+            pairs: _,
+        } => ring::wide(b),
+    }
+}
+
+pub(crate) fn giants_in(answer: KeyedAnswer) -> usize
+    ensures { λ r. ⌜ r ≡ giantsIn answer ⌝ }
+{
+    match answer {
+        KeyedAnswer::Refused(_) => 0,
+        KeyedAnswer::Is {
+            switches: _,
+            finished: _,
+            babies: _,
+            giants: g,
+            diagonals: _,
+            pairs: _,
+        } => ring::wide(g),
+    }
+}
+
+// The keyed run: writes plan and pair records in full, and leaves in cache, nodes, log and out what
+// document 01's machine leaves after n switches. Answers and refuses as `run_keyed`; after a refusal
+// every word and every record is as it was.
+pub fn evaluate_keyed(
+    slots: usize,
+    count: usize,
+    pairs: &[u32],
+    values: &[u64],
+    input: &[u64],
+    strategy: LinearTransformationStrategy,
+    held: &[u64],
+    n: u64,
+    plan: &mut [u32],
+    records: &mut [PairRecord],
+    cache: &mut [u64],
+    nodes: &mut [u64],
+    log: &mut [u32],
+    out: &mut [u64],
+) -> KeyedAnswer
+    ensures { λ r. ⌜ KeyedRun slots count (now (pairs .entry)) (now (values .entry)) (now (input .entry)) strategy (now (held .entry)) n (lent (now (plan .entry)) (now (records .entry)) (now (cache .entry)) (now (nodes .entry)) (now (log .entry)) (now (out .entry))) (lent (now (plan .exit)) (now (records .exit)) (now (cache .exit)) (now (nodes .exit)) (now (log .exit)) (now (out .exit))) r ⌝ }
+{
+    let room = records.len();
+    let answer = run_keyed(
+        slots,
+        count,
+        pairs,
+        values,
+        input,
+        strategy,
+        held,
+        n,
+        plan,
+        room,
+        cache,
+        nodes,
+        log,
+        out,
+    );
+    let babies = babies_in(answer);
+    let giants = giants_in(answer);
+    let _written = plan_records(strategy, slots, plan, babies, giants, records);
+    answer
 }

@@ -14,6 +14,7 @@ use Rattle.ring.specs.declared.Answer.{Answer}
 use Rattle.diagonals.specs.Calls.{mapRefusals, gotten}
 use Rattle.sibukyaran.specs.declared.Numbers.{Numbers}
 use Rattle.sibukyaran.specs.declared.Truth.{Truth}
+use Rattle.linear_transformation.specs.declared.records.PairRecord.{PairRecord}
 use Rattle.linear_transformation.specs.declared.LinearTransformationStrategy.{LinearTransformationStrategy}
 use Rattle.linear_transformation.specs.declared.plan.PlanAnswer.{PlanAnswer}
 use Rattle.linear_transformation.specs.declared.rotations.BsgsRotations.{BsgsRotations}
@@ -74,10 +75,10 @@ pub record PassesTold (rotations : BsgsRotations) (bs : List ℤ) (passes passes
   pub tells : toldPasses r ≡ passNumbers answer
   pub written : PassesWritten rotations bs passes passes' moves moves' answer
 
-pub record TreeTold (rotations : BsgsRotations) (gs : List ℤ) (leaves leaves' levels levels' pairs pairs' : List ℕ) (r : TreeNumbers) : Type 0 where
+pub record TreeTold (rotations : BsgsRotations) (gs : List ℤ) (leaves leaves' levels levels' : List ℕ) (records records' : List PairRecord) (r : TreeNumbers) : Type 0 where
   pub answer : TreeAnswer
   pub tells : toldTree r ≡ treeNumbers answer
-  pub written : TreeWritten rotations gs leaves leaves' levels levels' pairs pairs' answer
+  pub written : TreeWritten rotations gs leaves leaves' levels levels' records records' answer
 
 -- ---- the keyed run
 

@@ -2,6 +2,7 @@
 ghost use Rattle.runs.specs.Keyed.{lent};
 ghost use Rattle.sibukyaran.specs.Kinds.{strategyOf};
 ghost use Rattle.sibukyaran.specs.Numbers.{KeyedTold};
+use linear_transformation::PairRecord;
 
 #[no_mangle]
 pub extern "C" fn sibukyaran_evaluate_keyed(
@@ -15,7 +16,7 @@ pub extern "C" fn sibukyaran_evaluate_keyed(
     held: &[u64],
     n: u64,
     plan: &mut [u32],
-    records: &mut [u32],
+    records: &mut [PairRecord],
     cache: &mut [u64],
     nodes: &mut [u64],
     log: &mut [u32],

@@ -6,6 +6,7 @@ ghost use Rattle.linear_transformation.specs.Calls.{ListWritten};
 ghost use Rattle.linear_transformation.specs.Listed.{babyRefusals, closureOf, babyKeysOf, giantRefusals, giantKeysOf, giantSwitchesOf};
 ghost use Rattle.sibukyaran.specs.Kinds.{rotationsOf};
 ghost use Rattle.sibukyaran.specs.Numbers.{told, Told, PassesTold, TreeTold};
+use linear_transformation::PairRecord;
 
 #[no_mangle]
 pub extern "C" fn sibukyaran_baby_closure(
@@ -91,10 +92,11 @@ pub extern "C" fn sibukyaran_giant_tree(
     giants: &[i64],
     leaves: &mut [u32],
     levels: &mut [u32],
-    pairs: &mut [u32],
+    records: &mut [PairRecord],
 ) -> crate::TreeNumbers
-    ensures { λ r. ⌜ TreeTold (rotationsOf rotations «baby_step» «giant_step» slots) (now (giants .entry)) (now (leaves .entry)) (now (leaves .exit)) (now (levels .entry)) (now (levels .exit)) (now (pairs .entry)) (now (pairs .exit)) r ⌝ }
+    ensures { λ r. ⌜ TreeTold (rotationsOf rotations «baby_step» «giant_step» slots) (now (giants .entry)) (now (leaves .entry)) (now (leaves .exit)) (now (levels .entry)) (now (levels .exit)) (now (records .entry)) (now (records .exit)) r ⌝ }
 {
     let how = crate::kinds::rotations_of(rotations, baby_step, giant_step, slots);
-    crate::tree_of(linear_transformation::giant_tree(how, giants, leaves, levels, pairs))
+    let a = linear_transformation::giant_tree(how, giants, leaves, levels, records);
+    crate::tree_of(a)
 }

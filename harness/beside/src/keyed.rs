@@ -1,6 +1,7 @@
 //! The keyed run beside document 01's machine (machine.rs) after each switch, and finished beside the Rust's `evaluate`,
 //! plans, passes and trees.
 
+use std::fmt::Debug;
 use std::num::Wrapping;
 
 use poulpy_core::layouts::{
@@ -10,13 +11,13 @@ use poulpy_core::layouts::{
 
 use crate::bench::{Bench, keep};
 use crate::diagonals::{Stored, any_map, any_period, damaged, map_words, right_map_refusal, rust_map, wrapped};
-use crate::keys::tree_words;
+use crate::keys::tree_records;
 use crate::machine::{self, Plan};
-use crate::ours::{self, Buffers, Job, KeyedNumbers, Reach};
+use crate::ours::{self, Buffers, Job, KeyedNumbers, PairRecord, Reach};
 use crate::plans::{How, accepted, any_list, any_width, plan_keys, plan_switches, plan_words, subsets, wide};
 use crate::random::Random;
 use crate::ring::{MOST, word};
-use crate::sample::Sample;
+use crate::sample::{Sample, held_records, record_numbers};
 use crate::tally::{Cases, Tally};
 
 /// A run but for its held list and its n.
@@ -76,11 +77,12 @@ fn every_how(slots: usize) -> impl Iterator<Item = How> {
     widths.chain([(2, 0), (2, usize::MAX)])
 }
 
-/// Buffers of so many words, all different.
+/// Buffers of so many words and records, all different.
 fn lent(random: &mut Random, rooms: [usize; 6]) -> Buffers {
     let [plan, records, cache, nodes, log, out] = rooms.map(|room| random.words(room));
     let narrow = |words: Vec<u64>| words.into_iter().map(|w| w as u32).collect();
-    Buffers { plan: narrow(plan), records: narrow(records), cache, nodes, log: narrow(log), out }
+    let records = records.into_iter().map(|w| PairRecord { odd: w as u32, even_there: w >> 63 == 1 }).collect();
+    Buffers { plan: narrow(plan), records, cache, nodes, log: narrow(log), out }
 }
 
 fn longer(random: &mut Random, rooms: [usize; 6]) -> [usize; 6] {
@@ -95,13 +97,15 @@ fn held_among(random: &mut Random, keys: &[u64], others: &[u64]) -> Vec<u64> {
     held
 }
 
-/// The first place where two buffers differ, and what they hold there, if anything.
-type Difference = Option<(usize, Option<u64>, Option<u64>)>;
+/// The first place where two buffers differ, and what they hold there, if anything, as a text.
+type Difference = Option<String>;
 
-fn difference<T: Copy + PartialEq + Into<u64>>(ours: &[T], right: &[T]) -> Difference {
-    let at = |words: &[T], place: usize| words.get(place).map(|&w| w.into());
+const SAME: [Difference; 6] = [const { None }; 6];
+
+fn difference<T: PartialEq + Debug>(ours: &[T], right: &[T]) -> Difference {
     let same = ours.iter().zip(right).take_while(|(a, b)| a == b).count();
-    (same < ours.len().max(right.len())).then(|| (same, at(ours, same), at(right, same)))
+    let told = || format!("at {same} {:?}, should be {:?}", ours.get(same), right.get(same));
+    (same < ours.len().max(right.len())).then(told)
 }
 
 fn differences(ours: &Buffers, right: &Buffers) -> [Difference; 6] {
@@ -127,10 +131,10 @@ fn told(job: Job) -> String {
 /// Ours on these buffers, beside an answer and what they should hold.
 fn check_against(cases: &mut Cases, job: Job, lent: &Buffers, (right, words): &(KeyedNumbers, Buffers)) {
     let (numbers, now, around) = ours::watched_keyed(job, lent);
-    cases.same(|| told(job), (numbers, differences(&now, words), around), (*right, [None; 6], true));
+    cases.same(|| told(job), (numbers, differences(&now, words), around), (*right, SAME, true));
 }
 
-/// Every number and every word, beside the machine's.
+/// Every number, every word and every record, beside the machine's.
 fn check(cases: &mut Cases, job: Job, lent: &Buffers) {
     check_against(cases, job, lent, &machine::run(job, lent));
 }
@@ -177,11 +181,9 @@ fn rust_log(plan: &LinearTransformationPlan) -> Vec<u32> {
     babies.chain(levels.iter().flat_map(|(rot, pairs)| vec![word(*rot); pairs.len()])).collect()
 }
 
-/// The pairs' words of the Rust's tree, none per rotation.
-fn rust_records(plan: &LinearTransformationPlan) -> Vec<u32> {
-    let [_, _, pairs] =
-        call_giant_tree(plan.rotations, &plan.giant_steps).map_or_else(Default::default, |t| tree_words(&t));
-    pairs
+/// The pairs of the Rust's tree, none per rotation.
+fn rust_records(plan: &LinearTransformationPlan) -> Vec<PairRecord> {
+    call_giant_tree(plan.rotations, &plan.giant_steps).map_or_else(Vec::new, |tree| tree_records(&tree))
 }
 
 /// The input rotated by each nonzero baby, back to back.
@@ -221,12 +223,12 @@ fn check_finished(cases: &mut Cases, random: &mut Random, run: &Run) {
         babies: word(plan.baby_steps.len()),
         giants: word(plan.giant_steps.len()),
         diagonals: word(run.map.count),
-        pairs: words.records.len() / 2,
+        pairs: words.records.len(),
     };
     let (numbers, now, around) = ours::watched_keyed(run.job(&keys, switches as u64), &lent);
     words.nodes.clone_from(&now.nodes);
     let call = || told(run.job(&keys, switches as u64));
-    cases.same(call, (numbers, differences(&now, &words), around), (right, [None; 6], true));
+    cases.same(call, (numbers, differences(&now, &words), around), (right, SAME, true));
     if let Some(before) = switches.checked_sub(1) {
         let (numbers, now, _) = ours::watched_keyed(run.job(&keys, before as u64), &lent);
         let right = KeyedNumbers { switches: before, finished: false, ..right };
@@ -263,7 +265,7 @@ fn check_held_none(cases: &mut Cases, run: &Run, lent: &Buffers, refusal: u32) {
     }
 }
 
-/// The rooms with one of them one short; those that need no word cannot be.
+/// The rooms with one of them one short; those that need nothing cannot be.
 fn short_rooms(rooms: [usize; 6]) -> impl Iterator<Item = [usize; 6]> {
     (0..6).filter(move |&i| rooms[i] > 0).map(move |i| {
         let mut short = rooms;
@@ -366,23 +368,29 @@ fn example(random: &mut Random, kind: u32) -> Run {
 }
 
 /// A kind of strategy, and the keys, pairs and log of E6 by it.
-type Example<'a> = (u32, &'a [u64], &'a [u32], &'a [u32]);
+type Example<'a> = (u32, &'a [u64], &'a [PairRecord], &'a [u32]);
 
 const E6_PLAN: [u32; 18] = [0, 1, 2, 3, 0, 4, 12, 0, 3, 3, 1, 4, 1, 0, 1, 2, 1, 3];
 
-/// E6 and E7: plan, pairs and log as document 01 has them, with room for no word more.
+const E7_PAIRS: [PairRecord; 3] = [
+    PairRecord { odd: 1, even_there: true },
+    PairRecord { odd: 3, even_there: false },
+    PairRecord { odd: 1, even_there: true },
+];
+
+/// E6 and E7: plan, pairs and log as document 01 has them, with room for no more.
 fn check_examples(cases: &mut Cases, random: &mut Random) {
     let numbers =
         KeyedNumbers { refusal: 0, switches: 6, finished: true, babies: 4, giants: 3, diagonals: 5, pairs: 3 };
     let jobs: [Example; 2] =
-        [(1, &[1, 2, 4, 8], &[1, 1, 3, 0, 1, 1], &[1, 2, 2, 4, 4, 8]), (0, &[1, 2, 3, 4, 12], &[], &[1, 2, 3, 4, 12])];
+        [(1, &[1, 2, 4, 8], &E7_PAIRS, &[1, 2, 2, 4, 4, 8]), (0, &[1, 2, 3, 4, 12], &[], &[1, 2, 3, 4, 12])];
     for (kind, keys, records, log) in jobs {
         let run = example(random, kind);
         let lent = lent(random, [18, records.len(), 3 * 16, 3 * 16, log.len(), 16]);
         let (ours, now, _) = ours::watched_keyed(run.job(keys, 6), &lent);
-        let right = KeyedNumbers { switches: log.len(), pairs: records.len() / 2, ..numbers };
-        let words = (&now.plan[..], &now.records[..], &now.log[..]);
-        cases.same(|| format!("E6, E7, kind {kind}"), (ours, words), (right, (&E6_PLAN[..], records, log)));
+        let right = KeyedNumbers { switches: log.len(), pairs: records.len(), ..numbers };
+        let written = (&now.plan[..], &now.records[..], &now.log[..]);
+        cases.same(|| format!("E6, E7, kind {kind}"), (ours, written), (right, (&E6_PLAN[..], records, log)));
         for i in 0..keys.len() {
             let held = [&keys[..i], &keys[i + 1..]].concat();
             check_refused(cases, run.job(&held, 6), &lent, 11);
@@ -400,7 +408,7 @@ fn check_empty(cases: &mut Cases, random: &mut Random, slots: usize, how: How) {
     lent.plan[0] = 0;
     lent.out.fill(0);
     let call = || format!("E10, {slots} slots, {how:?}");
-    cases.same(call, (ours, differences(&now, &lent), around), (numbers, [None; 6], true));
+    cases.same(call, (ours, differences(&now, &lent), around), (numbers, SAME, true));
 }
 
 /// A run of each subset of up to 8 diagonals, by every width and strategy.
@@ -496,10 +504,11 @@ pub fn compare(tally: &mut Tally) {
     });
 }
 
-/// A call and the machine's answer, with sevens in every buffer before.
+/// A call and the machine's answer, with sevens in every buffer of words before.
 fn record(sample: &mut Sample, run: &Run, held: &[u64], n: u64, rooms: [usize; 6]) {
-    let [plan, records, log] = [rooms[0], rooms[1], rooms[4]].map(|room| vec![7; room]);
+    let [plan, log] = [rooms[0], rooms[4]].map(|room| vec![7; room]);
     let [cache, nodes, out] = [rooms[2], rooms[3], rooms[5]].map(|room| vec![7; room]);
+    let records = held_records(rooms[1]);
     let (numbers, now) = machine::run(run.job(held, n), &Buffers { plan, records, cache, nodes, log, out });
     let mut call = vec![run.how.0 as u64, run.how.1 as u64, n];
     call.extend(rooms.map(|room| room as u64));
@@ -511,7 +520,8 @@ fn record(sample: &mut Sample, run: &Run, held: &[u64], n: u64, rooms: [usize; 6
     let mut answer = vec![numbers.refusal as u64, numbers.switches as u64, numbers.finished as u64];
     answer.extend([numbers.babies, numbers.giants, numbers.diagonals].map(u64::from));
     answer.push(numbers.pairs as u64);
-    answer.extend([wide(&now.plan), wide(&now.records), now.cache, now.nodes, wide(&now.log), now.out].concat());
+    answer.extend([wide(&now.plan), record_numbers(&now.records), now.cache, now.nodes].concat());
+    answer.extend([wide(&now.log), now.out].concat());
     sample.call(39, &call, &answer);
 }
 

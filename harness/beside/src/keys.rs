@@ -3,11 +3,11 @@
 use poulpy_core::layouts::{GiantTree, call_baby_closure, call_baby_passes, call_giant_tree};
 
 use crate::diagonals::in_front;
-use crate::ours::{self, Lent, Numbers, PassNumbers, Reach, TreeNumbers};
+use crate::ours::{self, Lent, Numbers, PairRecord, PassNumbers, Reach, TreeNumbers};
 use crate::plans::{check_listed, disguised, held, listed, narrow, pair, subsets, wide};
 use crate::random::Random;
 use crate::ring::{MOST, outside, word};
-use crate::sample::Sample;
+use crate::sample::{Sample, held_records, record_numbers};
 use crate::tally::{Cases, Tally};
 
 /// Document 01's refusals of the rotations.
@@ -84,17 +84,42 @@ fn right_passes(words: &Result<(Vec<u32>, Vec<u32>), u32>, passes: &[u32], moves
     }
 }
 
-/// The words of the leaves, of the levels and of the pairs, or none per rotation.
-pub fn tree_words(tree: &GiantTree) -> [Vec<u32>; 3] {
-    let (leaves, levels) = tree;
-    [
-        leaves.iter().copied().map(word).collect(),
-        levels.iter().flat_map(|(rot, pairs)| [word(*rot), word(pairs.len())]).collect(),
-        levels
-            .iter()
-            .flat_map(|(_, pairs)| pairs.iter().flat_map(|&(even, odd)| [word(odd), even.is_some() as u32]))
-            .collect(),
-    ]
+/// What a tree writes: the words of its leaves and of its levels, and the records of its pairs.
+#[derive(Clone, PartialEq, Eq, Debug)]
+struct TreeLists {
+    leaves: Vec<u32>,
+    levels: Vec<u32>,
+    records: Vec<PairRecord>,
+}
+
+impl TreeLists {
+    fn of(tree: &GiantTree) -> TreeLists {
+        let (leaves, levels) = tree;
+        TreeLists {
+            leaves: leaves.iter().copied().map(word).collect(),
+            levels: levels.iter().flat_map(|(rot, pairs)| [word(*rot), word(pairs.len())]).collect(),
+            records: tree_records(tree),
+        }
+    }
+
+    fn sizes(&self) -> [usize; 3] {
+        [self.leaves.len(), self.levels.len(), self.records.len()]
+    }
+
+    /// These in front of what is held.
+    fn in_front(&self, held: &TreeLists) -> Option<TreeLists> {
+        Some(TreeLists {
+            leaves: in_front(&self.leaves, &held.leaves)?,
+            levels: in_front(&self.levels, &held.levels)?,
+            records: in_front(&self.records, &held.records)?,
+        })
+    }
+}
+
+/// The pairs of all levels.
+pub fn tree_records((_, levels): &GiantTree) -> Vec<PairRecord> {
+    let pairs = levels.iter().flat_map(|(_, pairs)| pairs);
+    pairs.map(|&(even, odd)| PairRecord { odd: word(odd), even_there: even.is_some() }).collect()
 }
 
 type Grown = Result<Option<GiantTree>, u32>;
@@ -103,19 +128,27 @@ fn grown(reach: Reach, giants: &[i64]) -> Grown {
     accepted_giants(reach, giants).map(|()| call_giant_tree(reach.rotations(), giants))
 }
 
-fn right_tree(tree: &Grown, held: &[Vec<u32>; 3]) -> (TreeNumbers, [Vec<u32>; 3]) {
+/// The rooms that a tree takes, or some where there is none.
+fn tree_rooms(tree: &Grown) -> [usize; 3] {
+    match tree {
+        Ok(Some(tree)) => TreeLists::of(tree).sizes(),
+        _ => [2, 2, 2],
+    }
+}
+
+fn right_tree(tree: &Grown, held: &TreeLists) -> (TreeNumbers, TreeLists) {
     let none = |refusal| (TreeNumbers { refusal, bits: 0, pairs: 0 }, held.clone());
     let tree = match tree {
-        Ok(Some(tree)) => tree,
+        Ok(Some(tree)) => TreeLists::of(tree),
         Ok(None) => return none(0),
         Err(refusal) => return none(*refusal),
     };
-    let words = tree_words(tree);
-    if words.iter().zip(held).any(|(w, h)| h.len() < w.len()) {
-        return none(12);
+    match tree.in_front(held) {
+        Some(lists) => {
+            (TreeNumbers { refusal: 0, bits: word(tree.levels.len() / 2), pairs: tree.records.len() }, lists)
+        }
+        None => none(12),
     }
-    let numbers = TreeNumbers { refusal: 0, bits: word(words[1].len() / 2), pairs: words[2].len() / 2 };
-    (numbers, std::array::from_fn(|i| in_front(&words[i], &held[i]).unwrap()))
 }
 
 fn check_babies(cases: &mut Cases, reach: Reach, babies: &[i64]) {
@@ -145,23 +178,28 @@ fn check_giants(cases: &mut Cases, reach: Reach, giants: &[i64]) {
     check_listed(cases, || call("giant keys"), keys, |out| ours::giant_keys(reach, giants, out));
     cases.same(|| call("giant switches"), ours::giant_switches(reach, giants), right_switches(reach, giants));
     let tree = grown(reach, giants);
-    let sizes = match &tree {
-        Ok(Some(tree)) => tree_words(tree).map(|words| words.len()),
-        _ => [2, 2, 2],
-    };
+    let sizes = tree_rooms(&tree);
     for short in 0..5 {
         // One of the three is one short, or none is, or all are longer.
-        let buffers: [Vec<u32>; 3] = std::array::from_fn(|i| match short {
-            4 => held(sizes[i] + 3),
-            _ if short == i => held(sizes[i].saturating_sub(1)),
-            _ => held(sizes[i]),
+        let rooms: [usize; 3] = std::array::from_fn(|i| match short {
+            4 => sizes[i] + 3,
+            _ if short == i => sizes[i].saturating_sub(1),
+            _ => sizes[i],
         });
-        let [mut leaves, mut levels, mut pairs] = [0, 1, 2].map(|i| Lent::new(&buffers[i]));
-        let numbers = ours::giant_tree(reach, giants, leaves.part(), levels.part(), pairs.part());
-        let (right, words) = right_tree(&tree, &buffers);
-        let ours = (numbers, [leaves.back(), levels.back(), pairs.back()]);
-        cases.same(|| call("tree"), ours, (right, words.map(|w| (w, true))));
+        let lists = TreeLists { leaves: held(rooms[0]), levels: held(rooms[1]), records: kept_records(rooms[2]) };
+        let (mut leaves, mut levels) = (Lent::new(&lists.leaves), Lent::new(&lists.levels));
+        let mut records = Lent::new(&lists.records);
+        let numbers = ours::giant_tree(reach, giants, leaves.part(), levels.part(), records.part());
+        let ((leaves, a), (levels, b), (records, c)) = (leaves.back(), levels.back(), records.back());
+        let (right, lists) = right_tree(&tree, &lists);
+        let ours = (numbers, TreeLists { leaves, levels, records }, [a, b, c]);
+        cases.same(|| call("tree"), ours, (right, lists, [true; 3]));
     }
+}
+
+/// Records that no tree has, with either flag.
+fn kept_records(room: usize) -> Vec<PairRecord> {
+    held(room).into_iter().map(|odd| PairRecord { odd, even_there: odd % 3 == 0 }).collect()
 }
 
 /// Each entry times the step.
@@ -250,7 +288,8 @@ fn head(reach: Reach) -> Vec<u64> {
 }
 
 fn sample_lists(sample: &mut Sample, reach: Reach, babies: &[i64], giants: &[i64], slack: i64) {
-    let sevens = |n: usize| vec![7; (n as i64 + slack).max(0) as usize];
+    let room = |n: usize| (n as i64 + slack).max(0) as usize;
+    let sevens = |n: usize| vec![7; room(n)];
     let words = |list: &[i64]| list.iter().map(|&k| k as u64).collect::<Vec<u64>>();
     let lists = [
         (26, right_closure(reach, babies), babies),
@@ -258,9 +297,9 @@ fn sample_lists(sample: &mut Sample, reach: Reach, babies: &[i64], giants: &[i64
         (28, right_giant_keys(reach, giants), giants),
     ];
     for (code, list, of) in lists {
-        let room = sevens(list.as_ref().map_or(3, Vec::len));
-        let (numbers, written) = listed(list, &room);
-        let call = [head(reach), vec![room.len() as u64], words(of)].concat();
+        let held = sevens(list.as_ref().map_or(3, Vec::len));
+        let (numbers, written) = listed(list, &held);
+        let call = [head(reach), vec![held.len() as u64], words(of)].concat();
         sample.call(code, &call, &[pair(numbers).to_vec(), wide(&written)].concat());
     }
     sample.call(29, &[head(reach), vec![0], words(giants)].concat(), &pair(right_switches(reach, giants)));
@@ -272,16 +311,13 @@ fn sample_lists(sample: &mut Sample, reach: Reach, babies: &[i64], giants: &[i64
     let answer = [numbers.refusal as u64, numbers.passes as u64, numbers.moves as u64];
     sample.call(30, &call, &[answer.to_vec(), wide(&pw), wide(&mw)].concat());
     let tree = grown(reach, giants);
-    let sizes = match &tree {
-        Ok(Some(tree)) => tree_words(tree).map(|words| words.len()),
-        _ => [2, 2, 2],
-    };
-    let buffers = sizes.map(sevens);
-    let (numbers, [leaves, levels, pairs]) = right_tree(&tree, &buffers);
-    let rooms = buffers.iter().map(|b| b.len() as u64).collect();
-    let call = [head(reach), rooms, words(giants)].concat();
+    let rooms = tree_rooms(&tree).map(room);
+    let [leaves, levels] = [rooms[0], rooms[1]].map(|room| vec![7; room]);
+    let (numbers, lists) = right_tree(&tree, &TreeLists { leaves, levels, records: held_records(rooms[2]) });
+    let call = [head(reach), rooms.map(|room| room as u64).to_vec(), words(giants)].concat();
     let answer = [numbers.refusal as u64, numbers.bits as u64, numbers.pairs as u64];
-    sample.call(31, &call, &[answer.to_vec(), wide(&leaves), wide(&levels), wide(&pairs)].concat());
+    let lists = [wide(&lists.leaves), wide(&lists.levels), record_numbers(&lists.records)].concat();
+    sample.call(31, &call, &[answer.to_vec(), lists].concat());
 }
 
 pub fn sample(sample: &mut Sample) {

@@ -4,7 +4,7 @@
 use std::collections::{BTreeMap, BTreeSet};
 
 use crate::diagonals::right_map_refusal;
-use crate::ours::{Buffers, Job, KeyedNumbers, Map};
+use crate::ours::{Buffers, Job, KeyedNumbers, Map, PairRecord};
 use crate::ring::{outside, word};
 
 /// "Rotation by k: out[j] = source[(j + k) mod length]."
@@ -53,8 +53,8 @@ pub struct Plan {
     index: BTreeMap<usize, BTreeSet<usize>>,
     baby_steps: Vec<Step>,
     giant_steps: Vec<Step>,
-    /// Of each pair, the odd node and whether node odd - 1 is there.
-    records: Vec<(usize, bool)>,
+    /// "The odd node and whether node odd - 1 is there, odd rising, level after level."
+    records: Vec<PairRecord>,
     /// Where the tree's top node stands.
     top: Option<usize>,
 }
@@ -167,7 +167,7 @@ impl Plan {
             let rotation = level_rotation(i, bits, giant_step, self.slots);
             for (&node, &odd) in nodes.iter().filter(|(node, _)| *node % 2 == 1) {
                 let even = nodes.get(&(node - 1)).copied();
-                self.records.push((node, even.is_some()));
+                self.records.push(PairRecord { odd: word(node), even_there: even.is_some() });
                 self.giant_steps.push((rotation, Switch::Pair { odd, even }));
             }
             nodes = halved(nodes);
@@ -193,12 +193,12 @@ impl Plan {
         self.index.values().map(BTreeSet::len).sum()
     }
 
-    /// The words of plan, records, cache, nodes, log and out that a whole run takes.
+    /// The words of plan, cache, nodes, log and out that a whole run takes, and the records.
     pub fn rooms(&self) -> [usize; 6] {
         let (babies, giants) = (self.babies.len(), self.index.len());
         [
             babies + 3 * giants + self.diagonals(),
-            2 * self.records.len(),
+            self.records.len(),
             (babies - 1) * self.slots,
             giants * self.slots,
             self.switches(),
@@ -216,10 +216,6 @@ impl Plan {
         }
         words.extend(self.index.values().flatten());
         words.into_iter().map(word).collect()
-    }
-
-    fn record_words(&self) -> Vec<u32> {
-        self.records.iter().flat_map(|&(odd, even_there)| [word(odd), even_there as u32]).collect()
     }
 }
 
@@ -307,12 +303,12 @@ impl Machine<'_> {
         self.log.push(word(*rotation));
     }
 
-    /// The buffers, with every word that no step has written as it was lent.
+    /// The buffers, with every word and record that no step has written as it was lent.
     fn written(&self, lent: &Buffers) -> Buffers {
         let plan = self.plan;
         let mut now = lent.clone();
         put(&mut now.plan, 0, &plan.words());
-        put(&mut now.records, 0, &plan.record_words());
+        put(&mut now.records, 0, &plan.records);
         // "One vector per nonzero plan baby, rising."
         for (place, baby) in plan.babies.iter().filter(|&&baby| baby != 0).enumerate() {
             self.cache.get(baby).iter().for_each(|vector| put(&mut now.cache, place * plan.slots, vector));
@@ -327,8 +323,8 @@ impl Machine<'_> {
     }
 }
 
-fn put<T: Copy>(buffer: &mut [T], at: usize, words: &[T]) {
-    buffer[at..at + words.len()].copy_from_slice(words);
+fn put<T: Copy>(buffer: &mut [T], at: usize, what: &[T]) {
+    buffer[at..at + what.len()].copy_from_slice(what);
 }
 
 /// Refusals 1, 2, 3 and 7, or 0. A kind that there is not has no width.

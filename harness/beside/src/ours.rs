@@ -63,6 +63,14 @@ pub struct TreeNumbers {
     pub pairs: usize,
 }
 
+/// A pair of a tree: the odd node, and whether node odd - 1 is there.
+#[repr(C)]
+#[derive(Clone, Copy, PartialEq, Eq, Debug)]
+pub struct PairRecord {
+    pub odd: u32,
+    pub even_there: bool,
+}
+
 /// What a keyed run made: its switches, whether it finished, the plan's numbers and the tree's pairs.
 #[repr(C)]
 #[derive(Clone, Copy, PartialEq, Eq, Debug)]
@@ -92,7 +100,7 @@ pub struct Map<'a> {
 }
 
 mod c {
-    use super::{KeyedNumbers, Numbers, PassNumbers, PlanNumbers, SignedDigit, TreeNumbers, Truth};
+    use super::{KeyedNumbers, Numbers, PairRecord, PassNumbers, PlanNumbers, SignedDigit, TreeNumbers, Truth};
 
     unsafe extern "C" {
         pub safe fn sibukyaran_wrapping_mul(a: u64, b: u64) -> u64;
@@ -176,7 +184,7 @@ mod c {
             n: u64,
             plan: *mut u32,
             plan_len: usize,
-            records: *mut u32,
+            records: *mut PairRecord,
             records_len: usize,
             cache: *mut u64,
             cache_len: usize,
@@ -302,8 +310,8 @@ mod c {
             fn_: usize,
             levels: *mut u32,
             ln: usize,
-            pairs: *mut u32,
-            pn: usize
+            records: *mut PairRecord,
+            rn: usize
         ) -> TreeNumbers;
         sibukyaran_giant_key_rotations(out: *mut u32, m: usize) -> Numbers;
         sibukyaran_giant_key_switches() -> Numbers;
@@ -464,7 +472,7 @@ pub struct Job<'a> {
 #[derive(Clone, PartialEq, Eq, Debug)]
 pub struct Buffers {
     pub plan: Vec<u32>,
-    pub records: Vec<u32>,
+    pub records: Vec<PairRecord>,
     pub cache: Vec<u64>,
     pub nodes: Vec<u64>,
     pub log: Vec<u32>,
@@ -479,7 +487,7 @@ pub fn evaluate_keyed(job: Job, buffers: &mut Buffers) -> KeyedNumbers {
 fn keyed_parts(
     job: Job,
     plan: &mut [u32],
-    records: &mut [u32],
+    records: &mut [PairRecord],
     cache: &mut [u64],
     nodes: &mut [u64],
     log: &mut [u32],
@@ -510,43 +518,65 @@ fn keyed_parts(
     )
 }
 
-/// The same on a copy of the buffers: the answer, what they hold then, and whether the words around them are as they were.
+/// The same on a copy of the buffers: the answer, what they hold then, and whether what stands around them is as it was.
 pub fn watched_keyed(job: Job, held: &Buffers) -> (KeyedNumbers, Buffers, bool) {
     let (mut plan, mut records, mut log) = (Lent::new(&held.plan), Lent::new(&held.records), Lent::new(&held.log));
     let (mut cache, mut nodes, mut out) = (Lent::new(&held.cache), Lent::new(&held.nodes), Lent::new(&held.out));
     let numbers = keyed_parts(job, plan.part(), records.part(), cache.part(), nodes.part(), log.part(), out.part());
-    let [(plan, a), (records, b), (log, c)] = [plan.back(), records.back(), log.back()];
-    let [(cache, d), (nodes, e), (out, f)] = [cache.back(), nodes.back(), out.back()];
+    let ((plan, a), (records, b), (log, c)) = (plan.back(), records.back(), log.back());
+    let ((cache, d), (nodes, e), (out, f)) = (cache.back(), nodes.back(), out.back());
     (numbers, Buffers { plan, records, cache, nodes, log, out }, [a, b, c, d, e, f] == [true; 6])
 }
 
-/// Words lent in the middle of others, which a call must leave alone.
-pub struct Lent<T> {
-    words: Vec<T>,
+/// What is lent: words and records.
+pub trait Element: Copy + PartialEq {
+    /// What stands on either side of a lent buffer.
+    const GUARD: [Self; 4];
 }
 
-const GUARD: usize = 4;
+const GUARD: u32 = 0x5a5a_1234;
 
-impl<T: Copy + PartialEq + From<u32>> Lent<T> {
-    fn guard() -> T {
-        T::from(0x5a5a_1234)
+impl Element for u32 {
+    const GUARD: [u32; 4] = [GUARD; 4];
+}
+
+impl Element for u64 {
+    const GUARD: [u64; 4] = [GUARD as u64; 4];
+}
+
+impl Element for PairRecord {
+    // Both flags on either side, so that either is seen where it does not belong.
+    const GUARD: [PairRecord; 4] = {
+        let (with, without) =
+            (PairRecord { odd: GUARD, even_there: true }, PairRecord { odd: GUARD, even_there: false });
+        [with, without, with, without]
+    };
+}
+
+/// Elements lent in the middle of others, which a call must leave alone.
+pub struct Lent<T> {
+    elements: Vec<T>,
+}
+
+impl<T: Element> Lent<T> {
+    pub fn new(elements: &[T]) -> Self {
+        Lent { elements: [&T::GUARD, elements, &T::GUARD].concat() }
     }
 
-    pub fn new(words: &[T]) -> Self {
-        let guard = [Self::guard(); GUARD];
-        Lent { words: [&guard, words, &guard].concat() }
+    fn end(&self) -> usize {
+        self.elements.len() - T::GUARD.len()
     }
 
     pub fn part(&mut self) -> &mut [T] {
-        let end = self.words.len() - GUARD;
-        &mut self.words[GUARD..end]
+        let end = self.end();
+        &mut self.elements[T::GUARD.len()..end]
     }
 
-    /// The lent words, and whether those around them are as they were.
+    /// The lent elements, and whether those around them are as they were.
     pub fn back(self) -> (Vec<T>, bool) {
-        let end = self.words.len() - GUARD;
-        let around = self.words[..GUARD].iter().chain(&self.words[end..]).all(|&w| w == Self::guard());
-        (self.words[GUARD..end].to_vec(), around)
+        let (front, behind) = self.elements.split_at(self.end());
+        let around = front[..T::GUARD.len()] == T::GUARD && behind == T::GUARD;
+        (front[T::GUARD.len()..].to_vec(), around)
     }
 }
 
@@ -662,11 +692,11 @@ pub fn giant_tree(
     giants: &[i64],
     leaves: &mut [u32],
     levels: &mut [u32],
-    pairs: &mut [u32],
+    records: &mut [PairRecord],
 ) -> TreeNumbers {
     let (f, fm) = (leaves.as_mut_ptr(), leaves.len());
     let (l, lm) = (levels.as_mut_ptr(), levels.len());
-    on_rotations!(sibukyaran_giant_tree, reach, giants, f, fm, l, lm, pairs.as_mut_ptr(), pairs.len())
+    on_rotations!(sibukyaran_giant_tree, reach, giants, f, fm, l, lm, records.as_mut_ptr(), records.len())
 }
 
 pub fn giant_keys(reach: Reach, giants: &[i64], out: &mut [u32]) -> Numbers {

@@ -6,6 +6,7 @@ use std::fs;
 use std::path::PathBuf;
 use std::process::ExitCode;
 
+use crate::ours::PairRecord;
 use crate::tally::Tally;
 use crate::{diagonals, keyed, keys, linear_transformation, matrices, plans, ring, runs};
 
@@ -15,8 +16,20 @@ pub struct Sample {
     answers: String,
 }
 
-/// What crates/replay has room for.
+/// What crates/replay has room for: bytes of calls, and records of one call.
 const LONGEST_TEXT: usize = 524_288;
+const MOST_RECORDS: usize = 256;
+
+/// Lent records as they are before a call.
+pub fn held_records(room: usize) -> Vec<PairRecord> {
+    assert!(room <= MOST_RECORDS, "too many records for a call: {room}");
+    vec![PairRecord { odd: 7, even_there: true }; room]
+}
+
+/// Lent records in an answer: two numbers each, the odd node and 1 or 0.
+pub fn record_numbers(records: &[PairRecord]) -> Vec<u64> {
+    records.iter().flat_map(|record| [record.odd as u64, record.even_there as u64]).collect()
+}
 
 impl Sample {
     pub fn call(&mut self, code: u64, words: &[u64], answer: &[u64]) {

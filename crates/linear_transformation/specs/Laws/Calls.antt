@@ -49,10 +49,10 @@ tree-numbers-answered (suc e) t = refl
 pub tree-numbers-none : treeNumbers NoTree ≡ 0 ∷ 0 ∷ 0 ∷ []
 tree-numbers-none = refl
 
--- the refusal, the numbers of babies, giants, pairs and switches, and the step that an answer was made of
-pub needs-numbers-answered : (e b g p s t : ℕ) → needsNumbers (needsAnswered e b g p s t) ≡ e ∷ onAccept e b 0 ∷ onAccept e g 0 ∷ onAccept e p 0 ∷ onAccept e s 0 ∷ onAccept e t 0 ∷ []
-needs-numbers-answered zero b g p s t = refl
-needs-numbers-answered (suc e) b g p s t = refl
+-- the refusal, the numbers of babies, giants, pairs and switches, the step and b that an answer was made of
+pub needs-numbers-answered : (e b g p s t n : ℕ) → needsNumbers (needsAnswered e b g p s t n) ≡ e ∷ onAccept e b 0 ∷ onAccept e g 0 ∷ onAccept e p 0 ∷ onAccept e s 0 ∷ onAccept e t 0 ∷ onAccept e n 0 ∷ []
+needs-numbers-answered zero b g p s t n = refl
+needs-numbers-answered (suc e) b g p s t n = refl
 
 -- where nothing is refused, the first condition does not hold, and nothing after it refuses
 none : (b : Bool) (n x : ℕ) → pick b (suc n) x ≡ 0 → (b ≡ false) × (x ≡ 0)

@@ -12,7 +12,7 @@ use borrow.Author.Tests.{ne-eqb, eq-eqb}
 use lib.Dec.{eqb}
 use lib.ListN.{length, length-append}
 use Rattle.ring.specs.Searches.{below, only}
-use Rattle.linear_transformation.specs.Trees.{Pair}
+use Rattle.linear_transformation.specs.declared.records.PairRecord.{PairRecord}
 use Rattle.linear_transformation.specs.Laws.Trees.{odds, odds-more, withEven}
 
 abbrev pub bit : Bool → ℕ
@@ -107,14 +107,14 @@ count-odd p (suc n) =
     ap length (odds-more p n) ∙ length-append (odds (below p (2 * n))) (only (p (2 * n + 1)) (2 * n + 1)) ∙ ap₂ _+_ (count-odd p n) (length-only (p (2 * n + 1)) (2 * n + 1))
 
 -- the number of pairs whose even node is missing
-unfoldable pub lone : List Pair → ℕ
+unfoldable pub lone : List PairRecord → ℕ
 lone [] = 0
-lone (p ∷ ps) = cond (p .even-there) 0 1 + lone ps
+lone (p ∷ ps) = cond (p .«even_there») 0 1 + lone ps
 
-lone-append : (ps qs : List Pair) → lone (ps ++ qs) ≡ lone ps + lone qs
+lone-append : (ps qs : List PairRecord) → lone (ps ++ qs) ≡ lone ps + lone qs
 unfolding lone
 lone-append [] qs = sym (zero-add (lone qs))
-lone-append (p ∷ ps) qs = rw (lone-append ps qs) (sym (add-assoc (cond (p .even-there) 0 1) (lone ps) (lone qs)))
+lone-append (p ∷ ps) qs = rw (lone-append ps qs) (sym (add-assoc (cond (p .«even_there») 0 1) (lone ps) (lone qs)))
 
 lone-only : (p : ℕ → Bool) (n : ℕ) (t e : Bool) → p (2 * n) ≡ e → lone (map (withEven p) (only t (2 * n + 1))) ≡ bit (t && not e)
 unfolding lone

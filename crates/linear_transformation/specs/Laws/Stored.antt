@@ -2,7 +2,7 @@
 -- babies there are.
 -- Assumes nothing.
 use Prim.Native.Nat.{ℕ, zero, suc, _*_, _/_, _%_, _^_, _≤_, _<_}
-use mathlib.Core.Path.{_≡_, refl, sym}
+use mathlib.Core.Path.{_≡_, sym}
 use mathlib.Core.Bool.{true, true≢false}
 use mathlib.Core.List.{List, [], _∷_, map}
 use native.Mathlib.Nat.{suc-ne-zero, zero-div, zero-mul, le-refl, le-antisymm, mul-le-mul-right, div-add-mod'}
@@ -12,9 +12,9 @@ use lib.Dec.{leb}
 use lib.IntN.{pos, _*ℤ_}
 use lib.ListN.{length, getD, length-map, length-append}
 use Rattle.ring.specs.Lists.{join, Each, Rising, among}
-use Rattle.ring.specs.Searches.{below, every}
+use Rattle.ring.specs.Searches.{below}
 use Rattle.ring.specs.Laws.Searches.{both, first, second, every-at, every-all}
-use Rattle.ring.specs.Laws.Lists.{each-then, each-at, each-append, each-map, each-tabulate, length-join}
+use Rattle.ring.specs.Laws.Lists.{each-then, each-at, each-append, each-map, each-tabulate}
 use Rattle.ring.specs.Laws.Below.{below-le, below-passes}
 use Rattle.ring.specs.Laws.Members.{each-among, among-head, among-rest, among-left}
 use Rattle.ring.specs.Laws.Vectors.{length-tabulate}
@@ -25,9 +25,10 @@ use Rattle.linear_transformation.specs.declared.digits.Rot.{Rot}
 use Rattle.linear_transformation.specs.Plans.{Distinct, babies, giants}
 use Rattle.linear_transformation.specs.Closures.{cleared, closure, targets, passRotations, nonzeros, nonEmpty}
 use Rattle.linear_transformation.specs.Digits.{Giant, bitsOf, levelDigit, levelRotation}
-use Rattle.linear_transformation.specs.Trees.{leavesOf, Pair, Level, levelsOf, treeOf, pairsAt, levelWords, recordWords, flag, keyed, treeKeys, treeSwitches}
+use Rattle.linear_transformation.specs.declared.records.PairRecord.{PairRecord}
+use Rattle.linear_transformation.specs.Trees.{leavesOf, Level, levelsOf, treeOf, pairsAt, keyed, treeKeys}
 use Rattle.linear_transformation.specs.Schedules.{babyStep, babyMultiples, planBabies, planTree, keysPerRotation, planKeys, planRots, giantDigits}
-use Rattle.linear_transformation.specs.Stored.{leastAt, offsetFits, offsetsRise, pairCount, planRecords}
+use Rattle.linear_transformation.specs.Stored.{leastAt, offsetFits, offsetsRise}
 use Rattle.linear_transformation.specs.Laws.Plans.{babies-rise, babies-below, babies-zero, giants-below, giants-multiple}
 use Rattle.linear_transformation.specs.Laws.Closures.{top-low, cleared-lower, positive, closure-has, closure-least, babies-rising}
 use Rattle.linear_transformation.specs.Laws.Passes.{target-is, rotations-are}
@@ -87,30 +88,6 @@ module _ (slots width : ℕ) (ks : List ℕ) where
   unfolding planTree treeOf levelsOf
   tree-height = length-tabulate _ _
 
-  -- two words a level
-  pub tree-levels-length : length (levelWords (planTree slots width ks .levels)) ≡ 2 * planTree slots width ks .bits
-  tree-levels-length =
-      let e : length (levelWords (planTree slots width ks .levels)) ≡ length (planTree slots width ks .levels) * 2 = length-join (λ (l : Level). l .rotation .0 ∷ length (l .pairs) ∷ []) 2 (λ l. refl) (planTree slots width ks .levels) in
-      omega (arith, e, tree-height)
-
--- two words a pair
-pair-words : (ls : List Level) → length (recordWords ls) ≡ 2 * length (join (λ l. l .pairs) ls)
-pair-words [] = refl
-pair-words (l ∷ ls) =
-    omega (
-      arith,
-      length-append (join (λ (p : Pair). p .odd ∷ flag (p .even-there) ∷ []) (l .pairs)) (recordWords ls),
-      length-join (λ (p : Pair). p .odd ∷ flag (p .even-there) ∷ []) 2 (λ p. refl) (l .pairs),
-      length-append (l .pairs) (join (λ l. l .pairs) ls),
-      pair-words ls,
-    )
-
-pub records-length : (slots : ℕ) (s : LinearTransformationStrategy) (ks : List ℕ) → length (planRecords slots s ks) ≡ 2 * pairCount slots s ks
-unfolding planRecords pairCount treeSwitches
-records-length slots (Bsgs w) ks = refl
-records-length slots (BsgsPowersOfTwo w) ks = pair-words (planTree slots w ks .levels)
-records-length slots Direct ks = refl
-
 -- ---- babies
 
 pub nonzeros-few : (xs : List ℕ) → length (nonzeros xs) ≤ length xs
@@ -167,7 +144,7 @@ nonzeros-each P [] h = tt
 nonzeros-each P (zero ∷ xs) h = nonzeros-each P xs (h .1)
 nonzeros-each P (suc x ∷ xs) h = rw (ne-eqb (suc x) 0 (suc-ne-zero x)) (h .0, nonzeros-each P xs (h .1))
 
-keyed-each : (P : ℕ → Type 0) (rot : Rot) (ps : List Pair) → P (rot .0) → Each P (keyed rot ps)
+keyed-each : (P : ℕ → Type 0) (rot : Rot) (ps : List PairRecord) → P (rot .0) → Each P (keyed rot ps)
 keyed-each P rot [] h = tt
 keyed-each P rot (p ∷ ps) h = (h, tt)
 
@@ -237,7 +214,7 @@ keys-low slots Direct ks l = own-low slots 1 ks
 
 -- ---- keys are few
 
-keyed-one : (rot : Rot) (ps : List Pair) → length (keyed rot ps) ≤ 1
+keyed-one : (rot : Rot) (ps : List PairRecord) → length (keyed rot ps) ≤ 1
 keyed-one rot [] = omega arith
 keyed-one rot (p ∷ ps) = le-refl 1
 

@@ -21,7 +21,8 @@ use Rattle.ring.specs.Laws.Refusals.{either}
 use Rattle.ring.specs.Laws.Residues.{residue-pos}
 use Rattle.linear_transformation.specs.Digits.{rotOf}
 use Rattle.ring.specs.Laws.Members.{one-of, right, among-head, among-some, among-below, below-among}
-use Rattle.linear_transformation.specs.Trees.{there, nodes, Pair, pairsAt}
+use Rattle.linear_transformation.specs.declared.records.PairRecord.{PairRecord}
+use Rattle.linear_transformation.specs.Trees.{there, nodes, pairsAt}
 
 -- ---- a node is there if one of its children is
 
@@ -93,8 +94,8 @@ odds-more p n =
     )
 
 -- the pair of an odd u: whether u - 1 passes the test
-abbrev pub withEven : (ℕ → Bool) → ℕ → Pair
-withEven p u = record { odd = u; even-there = p (u - 1) }
+abbrev pub withEven : (ℕ → Bool) → ℕ → PairRecord
+withEven p u = record { odd = u; «even_there» = p (u - 1) }
 
 -- the pairs of a level, over its odd places
 pub pairs-odds : (b : ℕ) (ls : List ℕ) (i : ℕ) → i < b → pairsAt b ls i ≡ map (withEven (there ls i)) (odds (below (there ls i) (2 * 2 ^ (b - suc i))))

@@ -2,16 +2,21 @@
 -- Assumes nothing.
 use Prim.Native.Nat.{ℕ, _≤_, _<_}
 use mathlib.Core.Path.{_≡_}
-use mathlib.Core.Bool.{Bool, not, _&&_}
-use mathlib.Core.List.{List}
-use lib.Dec.{eqb}
+use mathlib.Core.Bool.{Bool, true, false, not, _&&_}
+use mathlib.Core.List.{List, [], _∷_}
+use lib.Dec.{eqb, ltb}
 use lib.ListN.{length, take}
 use Rattle.ring.specs.Lists.{Each, among}
 use Rattle.ring.specs.Marks.{marks}
 use Rattle.ring.specs.Refusals.{firstOf}
+use Rattle.ring.specs.Vectors.{inFront}
 use Rattle.linear_transformation.specs.declared.LinearTransformationStrategy.{LinearTransformationStrategy}
-use Rattle.linear_transformation.specs.Schedules.{giantSwitches}
-use Rattle.linear_transformation.specs.Stored.{storedRefusals, isMissing, pairCount}
+use Rattle.linear_transformation.specs.declared.LinearTransformationStrategy.the-variants.{Bsgs, BsgsPowersOfTwo, Direct}
+use Rattle.linear_transformation.specs.declared.records.PairRecord.{PairRecord}
+use Rattle.linear_transformation.specs.declared.rotations.TreeAnswer.{TreeAnswer}
+use Rattle.linear_transformation.specs.Schedules.{planTree, planKeys, giantSwitches}
+use Rattle.linear_transformation.specs.Stored.{storedRefusals, isMissing, pairCount, RecordsLeft, PlanRecordsWritten}
+use Rattle.linear_transformation.specs.Steps.Records.{recordsIn, RecordsAsked}
 use Rattle.linear_transformation.specs.Steps.Keys.{Accepted}
 
 pub record StoredJudged (slots : ℕ) (strategy : LinearTransformationStrategy) (ks : List ℕ) (r : ℕ) : Type 0 where
@@ -39,8 +44,30 @@ pub record Listed (count : ℕ) (list : List ℕ) : Type 0 where
   pub room : count ≤ length list
   pub low : Each (λ k. k < 65536) (take count list)
 
+-- the refusal of accepted offsets, by the held keys
+abbrev pub keysRefusal : ℕ → LinearTransformationStrategy → List ℕ → List ℕ → ℕ
+keysRefusal slots strategy ks held = firstOf ((isMissing held (planKeys slots strategy ks), 11) ∷ [])
+
 -- ---- pairs
 
 -- of the giant switches n the pairs are all with powers of two, else none
 pub record PairsAre (strategy : LinearTransformationStrategy) (n r : ℕ) : Type 0 where
   pub are : (slots : ℕ) (ks : List ℕ) → n ≡ giantSwitches slots strategy ks → r ≡ pairCount slots strategy ks
+
+-- ---- `plan_records`
+
+-- each rotation has its own key
+unfoldable pub turnsEach : LinearTransformationStrategy → Bool
+turnsEach (Bsgs width) = true
+turnsEach (BsgsPowersOfTwo width) = false
+turnsEach Direct = true
+
+-- the tree over the giants of accepted offsets stands in the heap, and only the records are not written
+pub record TreePlanted (slots width : ℕ) (ks : List ℕ) (room : ℕ) (heap : List Bool) (r : TreeAnswer) : Type 0 where
+  pub written : (records : List PairRecord) → length records ≡ room → RecordsLeft (firstOf ((ltb (length records) (pairCount slots (BsgsPowersOfTwo width) ks), 12) ∷ [])) (planTree slots width ks) records (inFront (recordsIn r heap) records) r
+  pub asked : RecordsAsked r heap room
+
+-- the same for any offsets and any strategy
+pub record PlanGrown (slots : ℕ) (strategy : LinearTransformationStrategy) (gs : List ℕ) (room : ℕ) (heap : List Bool) (r : TreeAnswer) : Type 0 where
+  pub written : (records : List PairRecord) → length records ≡ room → PlanRecordsWritten slots strategy gs records (inFront (recordsIn r heap) records) r
+  pub asked : RecordsAsked r heap room

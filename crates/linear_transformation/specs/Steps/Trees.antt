@@ -3,7 +3,7 @@
 use Prim.Native.Nat.{ℕ, suc, _+_, _*_, _-_, _%_, _^_, _≤_, _<_}
 use mathlib.Core.Path.{_≡_}
 use mathlib.Core.Bool.{Bool, true, false, not, _||_}
-use mathlib.Core.List.{List, [], _∷_, map}
+use mathlib.Core.List.{List, map}
 use lib.IntN.{ℤ}
 use lib.Signed.{mag}
 use lib.ListN.{length}
@@ -17,7 +17,8 @@ use Rattle.ring.specs.Divisors.{divides}
 use Rattle.linear_transformation.specs.declared.digits.Digit.{Digit}
 use Rattle.linear_transformation.specs.declared.rotations.BsgsRotations.the-variants.{PowersOfTwo}
 use Rattle.linear_transformation.specs.Digits.{rotOf, digit, largest, bitsOf, leaf, levelDigit, levelRotation}
-use Rattle.linear_transformation.specs.Trees.{digitsOf, leavesOf, there, Pair, Level, flag, keyed}
+use Rattle.linear_transformation.specs.declared.records.PairRecord.{PairRecord}
+use Rattle.linear_transformation.specs.Trees.{digitsOf, leavesOf, there, Level, keyed}
 use Rattle.linear_transformation.specs.Listed.{giantRefusals}
 
 -- ---- refusals
@@ -122,15 +123,15 @@ pub record Planted (slots step : ℕ) (gs : List ℤ) (heap : List Bool) (r : �
 abbrev pub oddAt : List Bool → ℕ → ℕ → Bool
 oddAt heap m k = marks heap (2 * (m + k) + 1)
 
-abbrev pub pairAt : List Bool → ℕ → ℕ → Pair
-pairAt heap m k = record { odd = 2 * k + 1; even-there = marks heap (2 * (m + k)) }
+abbrev pub pairAt : List Bool → ℕ → ℕ → PairRecord
+pairAt heap m k = record { odd = 2 * k + 1; «even_there» = marks heap (2 * (m + k)) }
 
 -- the pairs of the first n odd nodes of that level
-unfoldable pub heapPairs : List Bool → ℕ → ℕ → List Pair
+unfoldable pub heapPairs : List Bool → ℕ → ℕ → List PairRecord
 heapPairs heap m n = map (pairAt heap m) (below (oddAt heap m) n)
 
 -- the pairs of level i of b
-abbrev pub levelPairs : List Bool → ℕ → ℕ → List Pair
+abbrev pub levelPairs : List Bool → ℕ → ℕ → List PairRecord
 levelPairs heap b i = heapPairs heap (2 ^ (b - suc i)) (2 ^ (b - suc i))
 
 abbrev pub heapLevel : ℕ → ℕ → ℕ → List Bool → ℕ → Level
@@ -143,10 +144,6 @@ heapLevels slots step b heap n = tabulate n (heapLevel slots step b heap)
 -- the pairs of the first n levels, counted
 unfoldable pub heapSwitches : ℕ → List Bool → ℕ → ℕ
 heapSwitches b heap n = length (join (levelPairs heap b) (tabulate n (λ i. i)))
-
--- the words of pairs
-abbrev pub wordsOf : List Pair → List ℕ
-wordsOf ps = join (λ p. p .odd ∷ flag (p .even-there) ∷ []) ps
 
 abbrev pub keysOf : List Level → List ℕ
 keysOf ls = join (λ l. keyed (l .rotation) (l .pairs)) ls
@@ -169,9 +166,3 @@ pub record LevelAsked (slots step b i : ℕ) : Type 0 where
 pub record LevelsAsked (slots step b : ℕ) : Type 0 where
   pub stepped : Stepped slots step
   pub small : b ≤ 16
-
--- ---- writing
-
-pub record PairsFit (heap : List Bool) (m at : ℕ) (pairs : List ℕ) : Type 0 where
-  pub low : m ≤ 32768
-  pub room : at + 2 * length (heapPairs heap m m) ≤ length pairs

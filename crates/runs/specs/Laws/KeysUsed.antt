@@ -19,7 +19,8 @@ use Rattle.linear_transformation.specs.declared.LinearTransformationStrategy.th
 use Rattle.linear_transformation.specs.declared.digits.Rot.{Rot}
 use Rattle.linear_transformation.specs.Plans.{babies, giants}
 use Rattle.linear_transformation.specs.Closures.{closure, targets, Pass, passOf, passes, nonzeros}
-use Rattle.linear_transformation.specs.Trees.{Pair, Level, keyed, treeKeys}
+use Rattle.linear_transformation.specs.declared.records.PairRecord.{PairRecord}
+use Rattle.linear_transformation.specs.Trees.{Level, keyed, treeKeys}
 use Rattle.linear_transformation.specs.Schedules.{babyStep, babyMultiples, planBabies, planTree, keysPerRotation, planKeys}
 use Rattle.linear_transformation.specs.Laws.Runs.{some-member}
 use Rattle.runs.specs.Switches.{placeOf, fromInput, Switch, baby, giant, rotationOf, ownBabies, moved, passBabies, planPasses, babySchedule, ownGiants, joined, levelSwitches, giantSchedule, schedule}
@@ -61,11 +62,11 @@ module _ (P : ℕ → Type 0) where
 
   module _ (leaves : List ℕ) where
     -- each pair of a level rotates by the level's rotation
-    pairs-to : (i : ℕ) (rot : Rot) (ps : List Pair) → Each P (keyed rot ps) → Each Of (map (joined leaves i (rot .0)) ps)
+    pairs-to : (i : ℕ) (rot : Rot) (ps : List PairRecord) → Each P (keyed rot ps) → Each Of (map (joined leaves i (rot .0)) ps)
     pairs-to i rot [] h = tt
     pairs-to i rot (p ∷ ps) h = each-map Of (joined leaves i (rot .0)) (p ∷ ps) (each-all (λ q. h .0) (p ∷ ps))
 
-    pairs-from : (i : ℕ) (rot : Rot) (ps : List Pair) → Each Of (map (joined leaves i (rot .0)) ps) → Each P (keyed rot ps)
+    pairs-from : (i : ℕ) (rot : Rot) (ps : List PairRecord) → Each Of (map (joined leaves i (rot .0)) ps) → Each P (keyed rot ps)
     pairs-from i rot [] h = tt
     pairs-from i rot (p ∷ ps) h = (h .0, tt)
 

@@ -100,19 +100,6 @@ module _ (leaves : List ℕ) (rises : Rising leaves) where
       by true t even odd = by-even i n t (even t)
       by false t even odd = by-odd i n t (odd (sym (ap (λ (b : Bool). b || there leaves i (2 * n + 1)) t) ∙ sym (there-half leaves i n) ∙ h))
 
-  -- smaller nodes of one level stand before larger ones
-  pub node-before : (i u w : ℕ) → there leaves i u ≡ true → there leaves i w ≡ true → u < w → nodePlace leaves i u < nodePlace leaves i w
-  node-before i u w h k l =
-      let f = node-first i u h in
-      let g = node-first i w k in
-      ⊎-elim (λ (q : nodePlace leaves i u < nodePlace leaves i w). q)
-      (λ (q : nodePlace leaves i w ≤ nodePlace leaves i u). absurd (by f g q (ℕ-discrete _ _)))
-      (lt-or-ge (nodePlace leaves i u) (nodePlace leaves i w))
-    where
-      by : NodeFirst leaves i u (nodePlace leaves i u) → NodeFirst leaves i w (nodePlace leaves i w) → nodePlace leaves i w ≤ nodePlace leaves i u → Dec (nodePlace leaves i w ≡ nodePlace leaves i u) → ⊥
-      by f g q (yes e) = let d : w ≡ u = sym (g .under) ∙ ap (λ (x : ℕ). getD leaves x 0 / 2 ^ i) e ∙ f .under in omega arith
-      by f g q (no n) = omega (arith, f .before (nodePlace leaves i w) (omega arith), g .under)
-
   -- a first place is the node's place
   pub node-place-is : (i n place : ℕ) → NodeFirst leaves i n place → nodePlace leaves i n ≡ place
   node-place-is i n place f =

@@ -31,7 +31,7 @@ use Rattle.runs.specs.Laws.Schedules.{place-own, map-places, own-schedul
 
 -- ---- lists one after the other
 
-pub join-join : {A B C : Type 0} (f : B → List C) (g : A → List B) (xs : List A) → join f (join g xs) ≡ join (λ x. join f (g x)) xs
+join-join : {A B C : Type 0} (f : B → List C) (g : A → List B) (xs : List A) → join f (join g xs) ≡ join (λ x. join f (g x)) xs
 join-join f g [] = refl
 join-join {C} f g (x ∷ xs) = join-append f (g x) (join g xs) ∙ ap (λ (t : List C). join f (g x) ++ t) (join-join f g xs)
 
@@ -39,7 +39,7 @@ map-join : {A B C : Type 0} (f : B → C) (g : A → List B) (xs : List A) → j
 map-join f g [] = refl
 map-join {C} f g (x ∷ xs) = ap (λ (t : List C). map f (g x) ++ t) (map-join f g xs) ∙ sym (map-append f (g x) (join g xs))
 
-map-each-same : {B : Type 0} (f g : ℕ → B) (xs : List ℕ) → Each (λ x. f x ≡ g x) xs → map f xs ≡ map g xs
+pub map-each-same : {B : Type 0} (f g : ℕ → B) (xs : List ℕ) → Each (λ x. f x ≡ g x) xs → map f xs ≡ map g xs
 map-each-same f g [] h = refl
 map-each-same f g (x ∷ xs) h = cc (h .0, map-each-same f g xs (h .1))
 

@@ -1,19 +1,20 @@
 -- What the private steps of the giant switches ask and ensure.
 -- Assumes nothing.
-use Prim.Native.Nat.{ℕ, suc, _+_, _-_, _*_, _^_, _≤_, _<_}
+use Prim.Native.Nat.{ℕ, zero, suc, _+_, _-_, _*_, _/_, _%_, _^_, _≤_, _<_}
 use mathlib.Core.Path.{_≡_}
-use mathlib.Core.Bool.{true, cond, not}
-use mathlib.Core.List.{List, [], _∷_, map}
-use lib.Dec.{eqb, ltb}
+use mathlib.Core.Bool.{Bool, true, false, cond, not, _&&_}
+use mathlib.Core.List.{List, map}
+use lib.Dec.{eqb}
 use lib.ListN.{length, getD}
 use Rattle.ring.specs.Slots.{modulus}
 use Rattle.ring.specs.Lists.{Each, Rising}
 use Rattle.ring.specs.Refusals.{Range}
+use Rattle.ring.specs.Searches.{below}
 use Rattle.ring.specs.Residues.{residueOf}
 use Rattle.ring.specs.Vectors.{tabulate, putAt}
-use Rattle.linear_transformation.specs.Digits.{digit, Giant}
-use Rattle.linear_transformation.specs.Trees.{there, Pair}
-use Rattle.runs.specs.Switches.{Switch, giant, joined, rotationOf}
+use Rattle.linear_transformation.specs.Digits.{digit, Giant, levelRotation}
+use Rattle.linear_transformation.specs.Trees.{there}
+use Rattle.runs.specs.Switches.{none, at, Switch, giant, pair, rotationOf, nodePlace}
 use Rattle.runs.specs.Machines.{nodesAfter}
 use Rattle.runs.specs.Steps.Keyed.{nodesBy}
 
@@ -33,13 +34,7 @@ pub record GiantsTurned (gs : List ℕ) (start n slots : ℕ) (nodes nodes' log 
   pub turned : nodes' ≡ nodesBy modulus slots nodes (tabulate n (turnAt gs start))
   pub logs : log' ≡ putAt logged (tabulate n (λ p. rotationOf (turnAt gs start p))) log
 
--- ---- levels and leaves
-
--- the level of the q-th pair, by the words of the levels: rotation and number of pairs
-abbrev pub levelIn : List ℕ → ℕ → ℕ
-levelIn [] q = 0
-levelIn (r ∷ []) q = 0
-levelIn (r ∷ n ∷ ws) q = cond (ltb q n) 0 (suc (levelIn ws (q - n)))
+-- ---- leaves
 
 -- the leaf of a giant in a tree of size leaves
 abbrev pub leafBy : ℕ → ℕ → ℕ → ℕ → ℕ
@@ -68,38 +63,79 @@ pub record NodeAsked (gs : List ℕ) (width slots size level node : ℕ) : Type 
 
 -- ---- pairs
 
-pub record RecordAsked (records : List ℕ) (q : ℕ) : Type 0 where
-  pub inside : 2 * q + 1 < length records
+-- the node of level i above the leaf at place p
+abbrev pub nodeAt : List ℕ → ℕ → ℕ → ℕ
+nodeAt leaves i p = getD leaves p 0 / 2 ^ i
 
--- the q-th pair, by its words
-abbrev pub pairIn : List ℕ → ℕ → Pair
-pairIn records q = record { odd = getD records (2 * q) 0; even-there = not (eqb (getD records (2 * q + 1) 0) 0) }
+-- no leaf before it is under the same node
+abbrev pub isFirst : List ℕ → ℕ → ℕ → Bool
+isFirst leaves i zero = true
+isFirst leaves i (suc p) = not (eqb (nodeAt leaves i p) (nodeAt leaves i (suc p)))
 
--- its switch
-abbrev pub joinAt : List ℕ → ℕ → ℕ → ℕ → List ℕ → List ℕ → ℕ → Switch
-joinAt gs width slots size levels records q =
-    joined (leavesBy slots width size gs) (levelIn levels q) (getD levels (2 * levelIn levels q) 0) (pairIn records q)
+-- a pair of level i starts there: with the first leaf under an odd node
+unfoldable pub startsPair : List ℕ → ℕ → ℕ → Bool
+startsPair leaves i p = eqb (nodeAt leaves i p % 2) 1 && isFirst leaves i p
 
-pub record PairAsked (gs : List ℕ) (width slots size : ℕ) (levels records : List ℕ) (n q : ℕ) : Type 0 where
+-- the even node is there: the leaf before is under it
+unfoldable pub hasEven : List ℕ → ℕ → ℕ → Bool
+hasEven leaves i zero = false
+hasEven leaves i (suc p) = eqb (nodeAt leaves i p + 1) (nodeAt leaves i (suc p))
+
+-- the switch of the pair that starts there
+abbrev pub startSwitch : List ℕ → ℕ → ℕ → ℕ → Switch
+startSwitch leaves i rotation p = pair p (cond (hasEven leaves i p) (at (nodePlace leaves i (nodeAt leaves i (p - 1)))) none) rotation
+
+-- the places of all levels in one row: place p of level i, of n places, is the (i * n + p)-th
+abbrev pub startsAt : List ℕ → ℕ → ℕ → Bool
+startsAt leaves n c = startsPair leaves (c / n) (c % n)
+
+abbrev pub switchAt : ℕ → ℕ → ℕ → List ℕ → ℕ → ℕ → Switch
+switchAt slots width bits leaves n c = startSwitch leaves (c / n) (levelRotation slots width bits (c / n) .0) (c % n)
+
+-- those with which a pair starts
+abbrev pub starts : List ℕ → ℕ → ℕ → List ℕ
+starts leaves n bits = below (startsAt leaves n) (bits * n)
+
+-- the q-th switch
+abbrev pub joinAt : List ℕ → ℕ → ℕ → ℕ → ℕ → ℕ → Switch
+joinAt gs width slots size bits q =
+    let leaves = leavesBy slots width size gs in
+    switchAt slots width bits leaves (length gs) (getD (starts leaves (length gs) bits) q 0)
+
+-- a place of a level
+pub record PlaceAsked (gs : List ℕ) (width slots size level place : ℕ) : Type 0 where
   pub leafy : Leafy gs width slots size
-  pub record-inside : 2 * q + 1 < length records
-  pub level-inside : 2 * levelIn levels q < length levels
-  pub level-low : levelIn levels q < 17
-  pub odd-some : 1 ≤ getD records (2 * q) 0
-  pub odd-there : there (leavesBy slots width size gs) (levelIn levels q) (getD records (2 * q) 0) ≡ true
-  pub even-there : not (eqb (getD records (2 * q + 1) 0) 0) ≡ true → there (leavesBy slots width size gs) (levelIn levels q) (getD records (2 * q) 0 - 1) ≡ true
-  pub small : getD records (2 * q) 0 * 2 ^ levelIn levels q < 65536
-  pub turn-low : getD levels (2 * levelIn levels q) 0 < slots
+  pub inside : place < length gs
+  pub some : 1 ≤ size
+  pub small : size ≤ 65536
+  pub low : level < 17
+
+pub record TurnOfAsked (bits level width slots : ℕ) : Type 0 where
+  pub slots-in : Range slots
+  pub width-in : Range width
+  pub small : bits ≤ 16
+  pub low : level < bits
+
+pub record PairAsked (gs : List ℕ) (width slots size bits level place n : ℕ) : Type 0 where
+  pub placed : PlaceAsked gs width slots size level place
+  pub small : bits ≤ 16
+  pub low : level < bits
   pub room : length gs * slots ≤ n
 
-pub record PairJoined (gs : List ℕ) (width slots size : ℕ) (levels records : List ℕ) (q : ℕ) (old new : List ℕ) (r : ℕ) : Type 0 where
-  pub nodes : new ≡ nodesAfter modulus slots old (joinAt gs width slots size levels records q)
-  pub turn : r ≡ rotationOf (joinAt gs width slots size levels records q)
+pub record PairJoined (gs : List ℕ) (width slots size bits level place : ℕ) (old new : List ℕ) (r : ℕ) : Type 0 where
+  pub nodes : new ≡ nodesAfter modulus slots old (startSwitch (leavesBy slots width size gs) level (levelRotation slots width bits level .0) place)
+  pub turn : r ≡ levelRotation slots width bits level .0
   pub len : length new ≡ length old
 
-pub record PairsAsked (gs : List ℕ) (width slots size : ℕ) (levels records : List ℕ) (n size-of-nodes : ℕ) : Type 0 where
-  pub each : (q : ℕ) → q < n → PairAsked gs width slots size levels records size-of-nodes q
+pub record PairsAsked (gs : List ℕ) (width slots size bits n size-of-nodes : ℕ) : Type 0 where
+  pub leafy : Leafy gs width slots size
+  pub some : 1 ≤ size
+  pub small : size ≤ 65536
+  pub bits-low : bits ≤ 16
+  pub giants-low : length gs ≤ 65536
+  pub few : n ≤ length (starts (leavesBy slots width size gs) (length gs) bits)
+  pub room : length gs * slots ≤ size-of-nodes
 
-pub record PairsJoined (gs : List ℕ) (width slots size : ℕ) (levels records : List ℕ) (n : ℕ) (nodes nodes' log log' : List ℕ) (logged : ℕ) : Type 0 where
-  pub joined-all : nodes' ≡ nodesBy modulus slots nodes (tabulate n (joinAt gs width slots size levels records))
-  pub logs : log' ≡ putAt logged (tabulate n (λ q. rotationOf (joinAt gs width slots size levels records q))) log
+pub record PairsJoined (gs : List ℕ) (width slots size bits n : ℕ) (nodes nodes' log log' : List ℕ) (logged : ℕ) : Type 0 where
+  pub joined-all : nodes' ≡ nodesBy modulus slots nodes (tabulate n (joinAt gs width slots size bits))
+  pub logs : log' ≡ putAt logged (tabulate n (λ q. rotationOf (joinAt gs width slots size bits q))) log

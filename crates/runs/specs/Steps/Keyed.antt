@@ -2,9 +2,8 @@
 -- Assumes nothing.
 use Prim.Native.Nat.{ℕ, zero, suc, _+_, _-_, _*_, _%_, _≤_, _<_}
 use mathlib.Core.Path.{_≡_}
-use mathlib.Core.Bool.{true, false, cond}
+use mathlib.Core.Bool.{true}
 use mathlib.Core.List.{List, [], _∷_}
-use lib.Dec.{ltb}
 use lib.ListN.{length, getD, take}
 use Rattle.ring.specs.Slots.{modulus, addm, mulm}
 use Rattle.ring.specs.Lists.{join, sumBy, among, Each, Rising}
@@ -13,7 +12,6 @@ use Rattle.diagonals.specs.Maps.{offsetAt, diagonalAt}
 use Rattle.diagonals.specs.Products.{cell}
 use Rattle.linear_transformation.specs.Plans.{babiesAt}
 use Rattle.linear_transformation.specs.Closures.{nonzeros}
-use Rattle.linear_transformation.specs.Trees.{Pair, Level}
 use Rattle.runs.specs.Switches.{Switch, sourceOf, rotationOf}
 use Rattle.runs.specs.Machines.{sourceVector, cacheAfter, nodesAfter}
 use Rattle.runs.specs.Laws.PassSchedules.{topTurn, making}
@@ -84,14 +82,6 @@ cacheBy slots input cache (w ∷ ws) = cacheBy slots input (cacheAfter slots inp
 abbrev pub nodesBy : ℕ → ℕ → List ℕ → List Switch → List ℕ
 nodesBy m slots nodes [] = nodes
 nodesBy m slots nodes (w ∷ ws) = nodesBy m slots (nodesAfter m slots nodes w) ws
-
--- the level of the q-th pair of all levels, and the pair
-abbrev pub levelOf : List Level → ℕ → ℕ
-levelOf [] q = 0
-levelOf (l ∷ ls) q = cond (ltb q (length (l .pairs))) 0 (suc (levelOf ls (q - length (l .pairs))))
-
-abbrev pub pairOf : List Level → ℕ → Pair
-pairOf ls q = getD (join (λ l. l .pairs) ls) q (record { odd = 0; even-there = false })
 
 -- ---- baby switches
 

@@ -2,22 +2,23 @@
 -- Assumes nothing.
 use Prim.Native.Nat.{ℕ, zero, suc, _+_, _-_, _*_, _≤_}
 use mathlib.Core.Path.{_≡_}
-use mathlib.Core.Bool.{cond}
+use mathlib.Core.Bool.{false, cond}
 use mathlib.Core.List.{List, map}
 use lib.Dec.{ltb}
 use lib.ListN.{length, getD, take}
 use Rattle.ring.specs.Slots.{modulus, addm}
+use Rattle.ring.specs.Refusals.{Range}
 use Rattle.ring.specs.Vectors.{tabulate, inFront, putAt}
 use Rattle.diagonals.specs.Maps.{offsetsOf, view}
 use Rattle.linear_transformation.specs.declared.LinearTransformationStrategy.{LinearTransformationStrategy}
-use Rattle.linear_transformation.specs.Schedules.{planWords}
-use Rattle.linear_transformation.specs.Stored.{planRecords, planLevels}
+use Rattle.linear_transformation.specs.Strategies.{widthOutside}
+use Rattle.linear_transformation.specs.Plans.{Distinct}
+use Rattle.linear_transformation.specs.Schedules.{planGiants, planWords}
 use Rattle.runs.specs.declared.keyed.Survey.{Survey}
-use Rattle.runs.specs.Switches.{Switch, rotationOf, giantSchedule}
+use Rattle.runs.specs.Switches.{rotationOf, giantSchedule}
 use Rattle.runs.specs.Machines.{State, nodeSum, nodeWords, answerOf, machine}
 use Rattle.runs.specs.Steps.Keyed.{nodesBy}
-use Rattle.runs.specs.Steps.Giants.{turnAt, joinAt, TurnsAsked, PairsAsked}
-use Rattle.runs.specs.Steps.Surveys.{takes, bitsBy, Taken}
+use Rattle.runs.specs.Steps.Surveys.{takes, Taken}
 
 -- ---- the answer
 
@@ -41,34 +42,30 @@ answerBy (suc c) giants nodes slots = topBy giants nodes slots
 
 -- ---- the giant switches
 
--- by the step, 0 per rotation; of `turns` giants that turn
-abbrev pub switchBy : ℕ → ℕ → ℕ → ℕ → ℕ → List ℕ → List ℕ → List ℕ → ℕ → Switch
-switchBy zero turns width size slots gs levels records = turnAt gs (length gs - turns)
-switchBy (suc c) turns width size slots gs levels records = joinAt gs width slots size levels records
-
-pub record TurningAsked (step turns width size made slots : ℕ) (gs levels records nodes log : List ℕ) (logged : ℕ) : Type 0 where
-  pub own : step ≡ 0 → (turns ≤ length gs) × TurnsAsked gs (length gs - turns) made slots nodes log logged
-  pub powers : 1 ≤ step → PairsAsked gs width slots size levels records made (length nodes)
+-- the first `made` switches of the giants gs of a plan, by the map's offsets ks
+pub record TurningAsked (strategy : LinearTransformationStrategy) (made slots : ℕ) (ks gs nodes log : List ℕ) (logged : ℕ) : Type 0 where
+  pub range : Range slots
+  pub width : widthOutside strategy ≡ false
+  pub distinct : Distinct slots ks
+  pub giants-are : gs ≡ planGiants slots strategy ks
+  pub few : made ≤ length (giantSchedule slots strategy ks)
+  pub room : length gs * slots ≤ length nodes
   pub log-room : logged + made ≤ length log
 
-pub record NodesTurned (step turns width size made slots : ℕ) (gs levels records nodes nodes' log log' : List ℕ) (logged : ℕ) : Type 0 where
-  pub turned : nodes' ≡ nodesBy modulus slots nodes (tabulate made (switchBy step turns width size slots gs levels records))
-  pub logs : log' ≡ putAt logged (tabulate made (λ q. rotationOf (switchBy step turns width size slots gs levels records q))) log
+pub record NodesTurned (strategy : LinearTransformationStrategy) (made slots : ℕ) (ks nodes nodes' log log' : List ℕ) (logged : ℕ) : Type 0 where
+  pub turned : nodes' ≡ nodesBy modulus slots nodes (take made (giantSchedule slots strategy ks))
+  pub logs : log' ≡ putAt logged (map rotationOf (take made (giantSchedule slots strategy ks))) log
 
 -- ---- the run
 
 -- the plan of an accepted map is written, and there is room for the rest
-pub record RunAsked (strategy : LinearTransformationStrategy) (survey : Survey) (bits : ℕ) (pairs values input plan levels records cache nodes log out : List ℕ) : Type 0 where
+pub record RunAsked (strategy : LinearTransformationStrategy) (survey : Survey) (offsets pairs values input plan cache nodes log out : List ℕ) : Type 0 where
   pub taken : Taken (length input) (survey .diagonals) pairs values input strategy
   pub survey-is : survey ≡ takes (length input) strategy (offsetsOf (view (survey .diagonals) pairs values)) (survey .diagonals)
-  pub bits-are : bits ≡ bitsBy (length input) strategy (offsetsOf (view (survey .diagonals) pairs values))
+  pub offsets-are : offsets ≡ offsetsOf (view (survey .diagonals) pairs values)
   pub old-plan : List ℕ
   pub plan-is : plan ≡ inFront (planWords (length input) strategy (offsetsOf (view (survey .diagonals) pairs values))) old-plan
   pub plan-room : length (planWords (length input) strategy (offsetsOf (view (survey .diagonals) pairs values))) ≤ length plan
-  pub old-levels : List ℕ
-  pub levels-are : levels ≡ inFront (planLevels (length input) strategy (offsetsOf (view (survey .diagonals) pairs values))) old-levels
-  pub old-records : List ℕ
-  pub records-are : records ≡ inFront (planRecords (length input) strategy (offsetsOf (view (survey .diagonals) pairs values))) old-records
   pub cache-room : (survey .babies - 1) * length input ≤ length cache
   pub nodes-room : survey .giants * length input ≤ length nodes
   pub log-room : survey .switches ≤ length log

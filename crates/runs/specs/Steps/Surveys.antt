@@ -1,4 +1,4 @@
--- What the keyed run's survey, its test of room and its writing of the plan ask and ensure.
+-- What the keyed run's survey and its test of room ask and ensure.
 -- Assumes nothing.
 use Prim.Native.Nat.{ℕ, zero, suc, _≤_}
 use mathlib.Core.Path.{_≡_}
@@ -11,11 +11,9 @@ use Rattle.ring.specs.Refusals.{firstOf, Range}
 use Rattle.diagonals.specs.Maps.{offsetsOf, view, WellFormed}
 use Rattle.diagonals.specs.Calls.{mapRefusals}
 use Rattle.linear_transformation.specs.declared.LinearTransformationStrategy.{LinearTransformationStrategy}
-use Rattle.linear_transformation.specs.declared.LinearTransformationStrategy.the-variants.{Bsgs, BsgsPowersOfTwo, Direct}
 use Rattle.linear_transformation.specs.Strategies.{widthOutside}
-use Rattle.linear_transformation.specs.Plans.{Distinct}
-use Rattle.linear_transformation.specs.Schedules.{planBabies, planGiants, planWords, planTree, planKeys, planSwitches}
-use Rattle.linear_transformation.specs.Stored.{isMissing, pairCount, planRecords, planLevels, stepOf}
+use Rattle.linear_transformation.specs.Schedules.{planBabies, planGiants, planKeys, planSwitches}
+use Rattle.linear_transformation.specs.Stored.{isMissing, pairCount, stepOf, bitsFor}
 use Rattle.runs.specs.declared.keyed.Survey.{Survey}
 
 -- ---- the survey
@@ -31,7 +29,7 @@ surveyRefusal slots count pairs values input strategy held =
     ∷ [])
 
 abbrev pub noSurvey : ℕ → Survey
-noSurvey e = record { refusal = e; diagonals = 0; babies = 0; giants = 0; pairs = 0; switches = 0; step = 0 }
+noSurvey e = record { refusal = e; diagonals = 0; babies = 0; giants = 0; pairs = 0; switches = 0; step = 0; bits = 0 }
 
 -- what a run by the plan of ks takes
 unfoldable pub takes : ℕ → LinearTransformationStrategy → List ℕ → ℕ → Survey
@@ -44,6 +42,7 @@ takes slots strategy ks count =
       pairs = pairCount slots strategy ks;
       switches = planSwitches slots strategy ks;
       step = stepOf slots strategy ks;
+      bits = bitsFor slots strategy ks;
     }
 
 abbrev pub surveyed : ℕ → ℕ → LinearTransformationStrategy → List ℕ → ℕ → Survey
@@ -73,25 +72,3 @@ pub record Sized (r : Survey) (slots : ℕ) : Type 0 where
   pub babies-low : r .babies ≤ 65536
   pub giants-low : r .giants ≤ 65536
   pub diagonals-low : r .diagonals ≤ 65536
-
--- ---- plan, records and levels
-
-pub record PlanAsked (slots : ℕ) (strategy : LinearTransformationStrategy) (ks plan records levels : List ℕ) : Type 0 where
-  pub range : Range slots
-  pub width : widthOutside strategy ≡ false
-  pub distinct : Distinct slots ks
-  pub plan-room : length (planWords slots strategy ks) ≤ length plan
-  pub records-room : length (planRecords slots strategy ks) ≤ length records
-  pub levels-room : length levels ≡ 32
-
--- b of the plan's tree; 0 per rotation
-abbrev pub bitsBy : ℕ → LinearTransformationStrategy → List ℕ → ℕ
-bitsBy slots (Bsgs width) ks = 0
-bitsBy slots (BsgsPowersOfTwo width) ks = planTree slots width ks .bits
-bitsBy slots Direct ks = 0
-
-pub record PlanLeft (slots : ℕ) (strategy : LinearTransformationStrategy) (ks plan plan' records records' levels levels' : List ℕ) (r : ℕ) : Type 0 where
-  pub plan-is : plan' ≡ inFront (planWords slots strategy ks) plan
-  pub records-are : records' ≡ inFront (planRecords slots strategy ks) records
-  pub levels-are : levels' ≡ inFront (planLevels slots strategy ks) levels
-  pub bits-are : r ≡ bitsBy slots strategy ks

@@ -27,11 +27,11 @@ own-keys-requires c κs = width-in (c .before)
 enum-known-strategy-2 : tie.Need-enum-known-strategy-2
 enum-known-strategy-2 c = search needs
 
-cast-power-keys : tie.Need-cast-power-keys
-cast-power-keys c = omega (arith, width-in-2 c .width-in .high)
+cast-keys-planted : tie.Need-cast-keys-planted
+cast-keys-planted c = omega (arith, width-in-2 c .width-in .high)
 
-power-keys-requires : tie.Need-power-keys-requires
-power-keys-requires c κs = width-in-2 (c .before)
+keys-planted-requires : tie.Need-keys-planted-requires
+keys-planted-requires c κs = width-in-2 (c .before)
 
 enum-told : tie.Need-enum-told
 enum-told c = search needs
@@ -49,7 +49,7 @@ same-length-2 : tie.Need-same-length-2
 same-length-2 c = search needs
 
 returns-2 : tie.Need-returns-2
-returns-2 c = keys-powers _ _ (c .before .before .before .before .before .strategy2 .given .1) (c .before .before .power-keys .ensures)
+returns-2 c = keys-powers _ _ (c .before .before .before .before .before .strategy2 .given .1) (c .before .before .keys-planted .ensures)
 
 same-length-3 : tie.Need-same-length-3
 same-length-3 c = search needs
@@ -65,8 +65,8 @@ keys-sorted-spec =
     cast-own-keys
     own-keys-requires
     enum-known-strategy-2
-    cast-power-keys
-    power-keys-requires
+    cast-keys-planted
+    keys-planted-requires
     enum-told
     own-keys-requires-2
     same-length

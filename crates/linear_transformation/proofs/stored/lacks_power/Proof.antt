@@ -1,10 +1,10 @@
 -- `linear_transformation::stored::lacks_power` meets its contract. Assumes nothing.
 use borrow.Author.Needs.{needs}
-use lib.ListN.{length-replicate}
-use Prim.Native.Nat.{ℕ}
-use Rattle.linear_transformation.proofs.Missings.{never-refused, powers-listed, powers-lacking}
 use Rattle.linear_transformation.proofs.stored.lacks_power.Statement.{statement}
 use Rattle.linear_transformation.proofs.stored.lacks_power.Tie as tie
+use Prim.Native.Nat.{ℕ}
+use lib.ListN.{length-replicate}
+use Rattle.linear_transformation.proofs.Missings.{never-refused, powers-listed, powers-lacking}
 
 slice-aggregate-power-keys : tie.Need-slice-aggregate-power-keys
 slice-aggregate-power-keys c = search needs

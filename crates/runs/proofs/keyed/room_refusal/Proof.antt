@@ -1,8 +1,7 @@
 -- `runs::keyed::room_refusal` meets its contract. Assumes nothing.
 use native.Mathlib.Omega.{arith}
 use borrow.Author.Needs.{needs}
-use Prim.Native.Nat.{_-_, _*_}
-use lib.ListN.{length}
+use Prim.Native.Nat.{_-_}
 use borrow.Author.Tests.{lt-ltb, le-ltb}
 use Rattle.runs.proofs.PlanWriting.{small-product}
 use borrow.Author.Needs.{needs}
@@ -22,7 +21,7 @@ returns : tie.Need-returns
 returns c = rw (lt-ltb _ _ (c .if1 .taken))
 
 returns-2 : tie.Need-returns-2
-returns-2 c = rw (le-ltb _ _ (c .before .before .if1 .left), lt-ltb (length (c .before .before .before .before .before .before .args .records .now)) (2 * c .before .before .before .before .before .before .args .survey .pairs) (omega arith))
+returns-2 c = rw (le-ltb _ _ (c .before .before .if1 .left), lt-ltb _ _ (c .if2 .taken))
 
 sub-if3 : tie.Need-sub-if3
 sub-if3 c = search needs
@@ -31,22 +30,22 @@ mul-if3 : tie.Need-mul-if3
 mul-if3 c = omega (arith, small-product (c .before .before .before .before .before .before .before .args .survey .babies - 1) (c .before .before .before .before .before .before .before .args .slots) (omega (arith, c .before .before .before .before .before .before .before .pre .babies-low)) (c .before .before .before .before .before .before .before .pre .slots-low))
 
 returns-3 : tie.Need-returns-3
-returns-3 c = rw (le-ltb _ _ (c .before .before .before .before .if1 .left), le-ltb (length (c .before .before .before .before .before .before .before .before .args .records .now)) (2 * c .before .before .before .before .before .before .before .before .args .survey .pairs) (omega arith), lt-ltb _ _ (c .if3 .taken))
+returns-3 c = rw (le-ltb _ _ (c .before .before .before .before .if1 .left), le-ltb _ _ (c .before .before .if2 .left), lt-ltb _ _ (c .if3 .taken))
 
 mul-if4 : tie.Need-mul-if4
 mul-if4 c = omega (arith, small-product (c .before .before .before .before .before .before .before .before .before .args .survey .giants) (c .before .before .before .before .before .before .before .before .before .args .slots) (c .before .before .before .before .before .before .before .before .before .pre .giants-low) (c .before .before .before .before .before .before .before .before .before .pre .slots-low))
 
 returns-4 : tie.Need-returns-4
-returns-4 c = rw (le-ltb _ _ (c .before .before .before .before .before .before .if1 .left), le-ltb (length (c .before .before .before .before .before .before .before .before .before .before .args .records .now)) (2 * c .before .before .before .before .before .before .before .before .before .before .args .survey .pairs) (omega arith), le-ltb _ _ (c .before .before .if3 .left), lt-ltb _ _ (c .if4 .taken))
+returns-4 c = rw (le-ltb _ _ (c .before .before .before .before .before .before .if1 .left), le-ltb _ _ (c .before .before .before .before .if2 .left), le-ltb _ _ (c .before .before .if3 .left), lt-ltb _ _ (c .if4 .taken))
 
 returns-5 : tie.Need-returns-5
-returns-5 c = rw (le-ltb _ _ (c .before .before .before .before .before .before .before .before .if1 .left), le-ltb (length (c .before .before .before .before .before .before .before .before .before .before .before .before .args .records .now)) (2 * c .before .before .before .before .before .before .before .before .before .before .before .before .args .survey .pairs) (omega arith), le-ltb _ _ (c .before .before .before .before .if3 .left), le-ltb _ _ (c .before .before .if4 .left), lt-ltb _ _ (c .if5 .taken))
+returns-5 c = rw (le-ltb _ _ (c .before .before .before .before .before .before .before .before .if1 .left), le-ltb _ _ (c .before .before .before .before .before .before .if2 .left), le-ltb _ _ (c .before .before .before .before .if3 .left), le-ltb _ _ (c .before .before .if4 .left), lt-ltb _ _ (c .if5 .taken))
 
 returns-6 : tie.Need-returns-6
-returns-6 c = rw (le-ltb _ _ (c .before .before .before .before .before .before .before .before .before .if1 .left), le-ltb (length (c .before .before .before .before .before .before .before .before .before .before .before .before .before .args .records .now)) (2 * c .before .before .before .before .before .before .before .before .before .before .before .before .before .args .survey .pairs) (omega arith), le-ltb _ _ (c .before .before .before .before .before .if3 .left), le-ltb _ _ (c .before .before .before .if4 .left), le-ltb _ _ (c .before .if5 .left), lt-ltb _ _ (c .if6 .taken))
+returns-6 c = rw (le-ltb _ _ (c .before .before .before .before .before .before .before .before .before .if1 .left), le-ltb _ _ (c .before .before .before .before .before .before .before .if2 .left), le-ltb _ _ (c .before .before .before .before .before .if3 .left), le-ltb _ _ (c .before .before .before .if4 .left), le-ltb _ _ (c .before .if5 .left), lt-ltb _ _ (c .if6 .taken))
 
 returns-7 : tie.Need-returns-7
-returns-7 c = rw (le-ltb _ _ (c .before .before .before .before .before .before .before .before .before .if1 .left), le-ltb (length (c .before .before .before .before .before .before .before .before .before .before .before .before .before .args .records .now)) (2 * c .before .before .before .before .before .before .before .before .before .before .before .before .before .args .survey .pairs) (omega arith), le-ltb _ _ (c .before .before .before .before .before .if3 .left), le-ltb _ _ (c .before .before .before .if4 .left), le-ltb _ _ (c .before .if5 .left), le-ltb _ _ (c .if6 .left))
+returns-7 c = rw (le-ltb _ _ (c .before .before .before .before .before .before .before .before .before .if1 .left), le-ltb _ _ (c .before .before .before .before .before .before .before .if2 .left), le-ltb _ _ (c .before .before .before .before .before .if3 .left), le-ltb _ _ (c .before .before .before .if4 .left), le-ltb _ _ (c .before .if5 .left), le-ltb _ _ (c .if6 .left))
 
 pub room-refusal-spec : {M : Type 1} → statement M
 room-refusal-spec =
