@@ -22,7 +22,7 @@ use Rattle.linear_transformation.specs.declared.records.PairRecord.{Pair
 use Rattle.linear_transformation.specs.declared.rotations.TreeAnswer.{TreeAnswer}
 use Rattle.linear_transformation.specs.declared.rotations.TreeAnswer.the-variants as Grown
 use Rattle.linear_transformation.specs.Steps.Trees.{oddAt, pairAt, heapPairs, levelPairs}
-use Rattle.linear_transformation.specs.Steps.Records.{levelIn, seenIn, LevelOf, CursorFits, heapRecords, passed, passedBefore, oddIn, pairIn, StepAsked, StepIs, NextAsked, NextIs, bitsIn, recordsIn, WriteAsked, Recorded}
+use Rattle.linear_transformation.specs.Steps.Records.{levelIn, seenIn, CursorFits, heapRecords, passed, passedBefore, oddIn, pairIn, StepAsked, StepIs, NextAsked, NextIs, bitsIn, recordsIn, WriteAsked, Recorded}
 use Rattle.linear_transformation.specs.Laws.Trees.{level-places}
 use Rattle.linear_transformation.proofs.Writing.{joined-more}
 
@@ -35,9 +35,6 @@ places-some : (b i : ℕ) → 1 ≤ 2 ^ (b - suc i)
 places-some b i = pow-mono {i = 0} {j = b - suc i} (omega arith)
 
 module _ {b c : ℕ} (f : CursorFits b c) where
-  pub level-of : LevelOf b (levelIn c)
-  level-of = record { low = f .low; inside = f .inside }
-
   pub places-few : 2 ^ (b - suc (levelIn c)) ≤ 32768
   places-few = places-low b (levelIn c) (f .low)
 

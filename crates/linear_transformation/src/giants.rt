@@ -203,8 +203,7 @@ pub(crate) fn has_own_keys(rotations: BsgsRotations) -> bool
 
 // The tree over the giants, in the heap, where `room` records are lent: b, the number of pairs, and in
 // front of the buffers one word a giant (its leaf) and two a level (its rotation and its number of
-// pairs). Per rotation there is no tree. Refuses with 1 slots and with 3 a step outside 1..=65536, with
-// 10 a giant that is no multiple of the step, with 12 too small a buffer.
+// pairs). Per rotation there is no tree. Refuses as `giant_tree`.
 pub(crate) fn grow_tree(
     rotations: BsgsRotations,
     giants: &[i64],
@@ -228,7 +227,8 @@ pub(crate) fn grow_tree(
 
 // The tree over the giants: b, the number of pairs, and in front of the buffers one word a giant (its
 // leaf), two a level (its rotation and its number of pairs), and one record a pair. Per rotation there
-// is no tree. Refuses as `grow_tree`. The heap is cleared only where there is a tree.
+// is no tree. Refuses with 1 slots and with 3 a step outside 1..=65536, with 10 a giant that is no
+// multiple of the step, with 12 too small a buffer. The heap is cleared only where there is a tree.
 pub fn giant_tree(
     rotations: BsgsRotations,
     giants: &[i64],

@@ -162,8 +162,7 @@ fn grow_part(
 }
 
 // The tree over the giants of a plan, `count` words from `from` on, in the heap, where `room` records
-// are lent: b and the number of pairs. Per rotation there is no tree. Refuses as `stored_plan`, with 12
-// too few records.
+// are lent: b and the number of pairs. Per rotation there is no tree. Refuses as `plan_records`.
 pub(crate) fn grow_plan(
     strategy: LinearTransformationStrategy,
     slots: usize,
@@ -186,7 +185,8 @@ pub(crate) fn grow_plan(
 }
 
 // The pair records of the tree over the giants of a plan, `count` words from `from` on, one a pair, in
-// front of the slice; b and the number of pairs. Per rotation there is no tree. Refuses as `grow_plan`.
+// front of the slice; b and the number of pairs. Per rotation there is no tree. Refuses as
+// `stored_plan`, with 12 too few records.
 pub fn plan_records(
     strategy: LinearTransformationStrategy,
     slots: usize,

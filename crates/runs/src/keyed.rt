@@ -386,12 +386,8 @@ fn run_listed(
     answer_of(survey, limit)
 }
 
-// The keyed run but for the pair records, of which `room` are lent: allowed n switches, it writes the
-// plan in full and leaves in cache, nodes, log and out what document 01's machine leaves after n
-// switches; finished, out begins with the product. Refuses with 1 or 2 a map, with 3 a strategy's width,
-// with 7 an input that is not slots long, with 11 a key rotation of the plan that is not on the held
-// list, and with 12 an output that is shorter than its whole result; then every word is as it was. A
-// short list of offsets costs little to clear, so few diagonals have one of their own.
+// The keyed run but for the pair records, of which `room` are lent. A short list of offsets costs little
+// to clear, so few diagonals have one of their own.
 pub(crate) fn run_keyed(
     slots: usize,
     count: usize,
@@ -483,9 +479,11 @@ pub(crate) fn giants_in(answer: KeyedAnswer) -> usize
     }
 }
 
-// The keyed run: writes plan and pair records in full, and leaves in cache, nodes, log and out what
-// document 01's machine leaves after n switches. Answers and refuses as `run_keyed`; after a refusal
-// every word and every record is as it was.
+// The keyed run, allowed n switches: writes plan and pair records in full, and leaves in cache, nodes, log
+// and out what document 01's machine leaves after n switches; finished, out begins with the product.
+// Refuses with 1 or 2 a map, with 3 a strategy's width, with 7 an input that is not slots long, with 11 a
+// key rotation of the plan that is not on the held list, and with 12 an output that is shorter than its
+// whole result; then every word and every record is as it was.
 pub fn evaluate_keyed(
     slots: usize,
     count: usize,

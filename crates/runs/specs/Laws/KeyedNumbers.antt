@@ -1,4 +1,4 @@
--- Laws of the keyed run's answer: its numbers, and what they tell of the run; how many pair records there are.
+-- Laws of the keyed run's answer: its numbers, and what they tell of the run.
 -- Assumes nothing.
 use Prim.Native.Nat.{ℕ, zero, suc, min}
 use mathlib.Core.Path.{_≡_, refl, ap}
@@ -8,9 +8,8 @@ use lib.ListN.{length, getD}
 use Rattle.ring.specs.Refusals.{onAccept}
 use Rattle.diagonals.specs.Maps.{Diagonal, offsetsOf}
 use Rattle.linear_transformation.specs.declared.LinearTransformationStrategy.{LinearTransformationStrategy}
-use Rattle.linear_transformation.specs.declared.LinearTransformationStrategy.the-variants.{Bsgs, BsgsPowersOfTwo, Direct}
-use Rattle.linear_transformation.specs.Trees.{flag, treeSwitches}
-use Rattle.linear_transformation.specs.Stored.{pairCount, planRecords}
+use Rattle.linear_transformation.specs.Trees.{flag}
+use Rattle.linear_transformation.specs.Stored.{pairCount}
 use Rattle.runs.specs.Plans.{mapBabies, mapGiants, mapSwitches}
 use Rattle.runs.specs.Keyed.{keyedNumbers, keyedAnswered}
 
@@ -32,10 +31,3 @@ module _ (slots : ℕ) (strategy : LinearTransformationStrategy) (ds : List Diag
   -- the first of them is the refusal
   pub keyed-first : (e : ℕ) → getD (keyedNumbers (keyedAnswered e slots strategy ds n)) 0 0 ≡ e
   keyed-first e = ap (λ (xs : List ℕ). getD xs 0 0) (keyed-numbers-answered e)
-
--- as many records as pairs
-pub records-many : (slots : ℕ) (strategy : LinearTransformationStrategy) (ks : List ℕ) → length (planRecords slots strategy ks) ≡ pairCount slots strategy ks
-unfolding planRecords pairCount treeSwitches
-records-many slots (Bsgs width) ks = refl
-records-many slots (BsgsPowersOfTwo width) ks = refl
-records-many slots Direct ks = refl
