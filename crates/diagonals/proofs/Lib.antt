@@ -1,5 +1,4 @@
 -- Laws that several proofs cite.
-pub mod Checking
 pub mod Folding
 pub mod Shrinkage
 pub mod Turnings

@@ -14,6 +14,13 @@ pub fn has_pairs(pairs: &[u32], n: usize) -> bool
     n <= pairs.len() / 2
 }
 
+// The words that n pairs take.
+pub fn pair_words(n: u32) -> usize
+    ensures { λ r. ⌜ r ≡ pairRoom n ⌝ }
+{
+    2 * ring::wide(n)
+}
+
 pub fn offset_at(pairs: &[u32], i: usize) -> u32
     ensures { λ r. ⌜ r ≡ offsetAt (now (pairs .entry)) i ⌝ }
 {

@@ -5,7 +5,7 @@ ghost use lib.Dec.{eqb};
 ghost use lib.ListN.{length};
 ghost use Rattle.ring.specs.Vectors.{filled};
 ghost use Rattle.ring.specs.Answers.{answered};
-ghost use Rattle.diagonals.specs.Maps.{offsetAt, view, WellFormed};
+ghost use Rattle.diagonals.specs.Maps.{offsetAt, valueWords, view, WellFormed};
 ghost use Rattle.diagonals.specs.Calls.{newRefusal, mapRefusal, gotten, Indexes, tested};
 ghost use Rattle.diagonals.specs.Steps.Reading.{Stretched, Finding};
 
@@ -34,6 +34,17 @@ pub fn is_empty(slots: usize, count: usize, pairs: &[u32], values: &[u64]) -> Te
         return Test::Refused(code);
     }
     Test::Is(count == 0)
+}
+
+// The number of values that a map has.
+pub fn used_values(slots: usize, count: usize, pairs: &[u32], values: &[u64]) -> ring::Answer
+    ensures { λ r. ⌜ r ≡ answered (mapRefusal slots count (now (pairs .entry)) (now (values .entry))) (length (valueWords (view count (now (pairs .entry)) (now (values .entry))))) ⌝ }
+{
+    let code = crate::map_refusal(slots, count, pairs, values);
+    if code != 0 {
+        return ring::Answer::Refused(code);
+    }
+    ring::Answer::Is(crate::setting::end_of(count, pairs, 0, 0))
 }
 
 struct Stretch {

@@ -35,7 +35,7 @@ fn behind_of(count: usize, pairs: &[u32], k: u32, index: usize, start: usize) ->
 }
 
 // Where the values of all pairs end, from where those of one start.
-fn end_of(count: usize, pairs: &[u32], index: usize, start: usize) -> usize
+pub(crate) fn end_of(count: usize, pairs: &[u32], index: usize, start: usize) -> usize
     requires { ⌜ InOrder count (now pairs) ⌝ }
     requires { ⌜ index ≤ count ⌝ }
     requires { ⌜ start ≡ startAt (now pairs) index ⌝ }

@@ -2,6 +2,7 @@
 pub mod Slots
 pub mod Lists
 pub mod Vectors
+pub mod Places
 pub mod Residues
 pub mod Rotations
 pub mod Refusals

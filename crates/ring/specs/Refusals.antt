@@ -1,9 +1,10 @@
 -- Document 01, "Refusals, in checking order".
 -- Assumes nothing.
 use Prim.Native.Nat.{ℕ, zero, suc, _≤_}
-use mathlib.Core.Bool.{Bool, true, false, not, _||_}
+use mathlib.Core.Bool.{Bool, true, false, cond, not, _&&_, _||_}
 use mathlib.Core.List.{List, [], _∷_}
 use lib.Dec.{ltb, eqb}
+use Rattle.ring.specs.Lists.{some}
 use Rattle.ring.specs.Divisors.{divides}
 
 abbrev pub pick : Bool → ℕ → ℕ → ℕ
@@ -14,6 +15,23 @@ pick false a b = b
 abbrev pub firstOf : List (Bool × ℕ) → ℕ
 firstOf [] = 0
 firstOf (c ∷ cs) = pick (c .0) (c .1) (firstOf cs)
+
+-- the numbers in checking order: document 01's, and 13 of document 02's A1 after 1 and before 3
+abbrev pub checkingOrder : List ℕ
+checkingOrder = 1 ∷ 2 ∷ 13 ∷ 3 ∷ 4 ∷ 5 ∷ 6 ∷ 7 ∷ 8 ∷ 9 ∷ 10 ∷ 11 ∷ 12 ∷ []
+
+abbrev pub placeIn : List ℕ → ℕ → ℕ
+placeIn [] n = 0
+placeIn (x ∷ xs) n = cond (eqb x n) 0 (suc (placeIn xs n))
+
+-- when a number is checked
+abbrev pub turnOf : ℕ → ℕ
+turnOf n = placeIn checkingOrder n
+
+-- the refusals of a call stand in checking order
+abbrev pub inOrder : List (Bool × ℕ) → Bool
+inOrder [] = true
+inOrder (c ∷ cs) = not (some (λ e. ltb (turnOf (e .1)) (turnOf (c .1))) cs) && inOrder cs
 
 -- by the refusal: a where it is 0, else b. Of a lent buffer, a is what an accepted call leaves and b what it held
 abbrev pub onAccept : {A : Type 0} → ℕ → A → A → A

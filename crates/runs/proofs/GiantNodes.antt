@@ -17,7 +17,7 @@ use Rattle.ring.specs.Vectors.{tabulate, inFront, putAt}
 use Rattle.ring.specs.Laws.Searches.{lt-or-ge}
 use Rattle.ring.specs.Laws.Vectors.{length-tabulate, getD-tabulate, length-inFront, inFront-new, inFront-old, join-tables}
 use Rattle.diagonals.specs.Maps.{startAt}
-use Rattle.runs.specs.Laws.Places.{length-putAt, putAt-before, putAt-new, putAt-behind}
+use Rattle.ring.specs.Laws.Places.{length-putAt, putAt-before, putAt-new, putAt-behind}
 use Rattle.runs.specs.Steps.Nodes.{GiantAsked, PartAsked, PartMade, NodesAsked, nodeSlot, MadeTo, TileAsked, TileMade, NodesMade}
 
 -- ---- parts of vectors

@@ -26,7 +26,7 @@ use Rattle.runs.specs.Laws.PassSchedules.{baby-count}
 use Rattle.runs.specs.Steps.Keyed.{cacheBy, nodesBy, Caching, BabiesMade}
 use Rattle.runs.specs.Steps.Runs.{RunAsked, GiantsLeft, RunLeft}
 use Rattle.runs.proofs.FromBabies.{caching-of, babies-by, babies-logged}
-use Rattle.runs.proofs.Putting.{put-both}
+use Rattle.ring.specs.Laws.Places.{put-both}
 use Rattle.runs.proofs.Running.{take-least, babies-are, step-is, own-switches, all-switches, babies-part}
 
 -- ---- the machine's parts

@@ -1,14 +1,14 @@
--- A loop that puts words one after the other over a part of a buffer: what it keeps, a turn, and two such parts together.
+-- A loop that puts words one after the other over a part of a buffer: what it keeps, and a turn.
 -- Assumes nothing.
 use Prim.Native.Nat.{ℕ, suc, _+_, _≤_, _<_}
 use mathlib.Core.Path.{_≡_, refl, sym, ap, _∙_}
-use mathlib.Core.List.{List, [], _∷_, _++_, append-assoc}
+use mathlib.Core.List.{List, [], _∷_, _++_}
 use native.Mathlib.Omega.{arith}
-use lib.ListN.{length, getD, set, take, drop, take-append-drop, length-drop, length-append}
-use lib.Seq.{length-take-le, drop-drop, take-at, drop-at}
+use lib.ListN.{length, getD, set, take, drop, take-append-drop, length-drop}
+use lib.Seq.{length-take-le}
 use Rattle.ring.specs.Vectors.{tabulate, inFront, putAt}
 use Rattle.ring.specs.Laws.Vectors.{length-tabulate, tabulate-more, inFront-more}
-use Rattle.runs.specs.Laws.Places.{length-putAt, putAt-before, putAt-behind}
+use Rattle.ring.specs.Laws.Places.{length-putAt, putAt-before, putAt-behind}
 
 -- the j words f 0 .. f (j - 1) stand from place `at` on
 pub record Putting (f : ℕ → ℕ) (at : ℕ) (old new : List ℕ) (j : ℕ) : Type 0 where
@@ -52,19 +52,3 @@ module _ {f : ℕ → ℕ} {at : ℕ} {old new : List ℕ} {j : ℕ} (p : Puttin
 
   pub putting-done : (n : ℕ) → j ≡ n → new ≡ putAt at (tabulate n f) old
   putting-done n e = rw (← e) (p .so-far)
-
--- ---- two parts, one behind the other
-
-pub put-both : (at to : ℕ) (xs ys old : List ℕ) → at ≤ length old → to ≡ at + length xs → putAt to ys (putAt at xs old) ≡ putAt at (xs ++ ys) old
-unfolding putAt inFront
-put-both at to xs ys old h e =
-    let front = take at old in
-    let rest = drop at old in
-    let len : length (front ++ xs) ≡ to = length-append front xs ∙ rw (length-take-le at old h) (sym e) in
-    rw (← (append-assoc front xs (drop (length xs) rest)))
-    (ap (λ (t : List ℕ). t ++ (ys ++ drop (length ys) (drop to ((front ++ xs) ++ drop (length xs) rest)))) (take-at (front ++ xs) (drop (length xs) rest) to len)
-    ∙ ap (λ (t : List ℕ). (front ++ xs) ++ (ys ++ drop (length ys) t)) (drop-at (front ++ xs) (drop (length xs) rest) to len)
-    ∙ ap (λ (t : List ℕ). (front ++ xs) ++ (ys ++ t)) (drop-drop (length ys) (length xs) rest)
-    ∙ append-assoc front xs (ys ++ drop (length xs + length ys) rest)
-    ∙ ap (λ (t : List ℕ). front ++ t) (sym (append-assoc xs ys (drop (length xs + length ys) rest)))
-    ∙ ap (λ (n : ℕ). front ++ ((xs ++ ys) ++ drop n rest)) (sym (length-append xs ys)))

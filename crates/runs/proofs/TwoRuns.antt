@@ -15,9 +15,10 @@ use Rattle.ring.specs.Rotations.{rotated}
 use Rattle.ring.specs.Laws.Rotations.{getD-rotated, length-rotated}
 use Rattle.ring.specs.Laws.Residues.{residue-pos}
 use Rattle.runs.specs.Machines.{vectorAt, putVector, turned, summed}
-use Rattle.runs.specs.Laws.Places.{Inside, length-vectorAt, getD-vectorAt, length-putAt, putAt-before, putAt-behind}
+use Rattle.ring.specs.Laws.Places.{length-putAt, putAt-before, putAt-behind, put-both}
+use Rattle.runs.specs.Laws.Places.{Inside, length-vectorAt, getD-vectorAt}
 use Rattle.runs.specs.Steps.Keyed.{copied, addedAt, TurnAsked, CopyTurn, AddTurn, CopyAsked, AddAsked}
-use Rattle.runs.proofs.Putting.{Putting, putting-behind, put-both}
+use Rattle.runs.proofs.Putting.{Putting, putting-behind}
 
 -- a place before another is a vector before it
 pub apart : (slots a b : ℕ) → a < b → a * slots + slots ≤ b * slots

@@ -5,19 +5,20 @@ use mathlib.Core.Path.{_≡_, refl, sym, ap, _∙_}
 use mathlib.Core.Bool.{Bool, true, false, or-true}
 use mathlib.Core.List.{List, [], _∷_, _++_}
 use native.Mathlib.Nat.{suc-ne-zero}
-use borrow.Author.Tests.{lt-ltb, le-ltb, ltb-false}
+use borrow.Author.Tests.{lt-ltb, le-ltb, ltb-false, not-false}
 use lib.Dec.{ltb}
 use lib.ListN.{length}
 use Rattle.ring.specs.Vectors.{inFront, filled}
 use Rattle.ring.specs.Refusals.{firstOf, onAccept, outside}
 use Rattle.ring.specs.declared.Answer.{Answer}
 use Rattle.ring.specs.Laws.Vectors.{filled-front}
-use Rattle.ring.specs.Laws.Refusals.{onAccept-refused, onAccept-accepted, first-refused, first-later, pick-none, either}
+use Rattle.ring.specs.Laws.Refusals.{onAccept-refused, onAccept-accepted, first-refused, first-later, pick-none, either, none-holds}
 use Rattle.ring.specs.Laws.Answers.{answered-refused, answered-accepted, no-refused}
 use Rattle.diagonals.specs.declared.reading.Test.the-variants.{Refused, Is}
-use Rattle.diagonals.specs.Maps.{Diagonal, offsetAt, wellFormed, pairWords, valueWords, pairRoom}
+use Rattle.diagonals.specs.Maps.{Diagonal, offsetAt, wellFormed, pairWords, valueWords, pairRoom, WellFormed}
 use Rattle.diagonals.specs.Calls.{mapRefusals, mapRefusal, Judged, truths, tested, MapWritten, indexesRefusal, Indexes, mapRoom, RoomJudged, SecondWritten}
 use Rattle.diagonals.specs.Laws.Maps.{formed-means, offsets-view}
+use Rattle.diagonals.specs.Laws.Words.{means-formed}
 
 module _ {slots count : ℕ} {pairs values : List ℕ} where
   pub judged-refused : {r : ℕ} → suc r ≡ mapRefusal slots count pairs values → Judged slots count pairs values (suc r)
@@ -25,6 +26,16 @@ module _ {slots count : ℕ} {pairs values : List ℕ} where
 
   pub judged-accepted : outside slots ≡ false → wellFormed slots count pairs values ≡ true → Judged slots count pairs values 0
   judged-accepted a b = record { answer = rw (a, b); inside = λ h. a; formed = λ h. formed-means slots count pairs values b }
+
+-- a map that is not refused, and what it is
+module _ (slots count : ℕ) (pairs values : List ℕ) where
+  pub stored-means : mapRefusal slots count pairs values ≡ 0 → (outside slots ≡ false) × WellFormed slots count pairs values
+  stored-means h =
+      let q = none-holds (mapRefusals slots count pairs values) (suc-ne-zero 0, (suc-ne-zero 1, tt)) h in
+      (q .0, formed-means slots count pairs values (not-false _ (q .1 .0)))
+
+  pub means-stored : outside slots ≡ false → WellFormed slots count pairs values → mapRefusal slots count pairs values ≡ 0
+  means-stored a w = rw (a, means-formed slots count pairs values w)
 
 -- a call that is lent a map and has further refusals
 module _ {slots count : ℕ} {pairs values : List ℕ} {r : ℕ} (j : Judged slots count pairs values r) (cs : List (Bool × ℕ)) where

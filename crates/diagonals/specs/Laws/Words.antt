@@ -5,7 +5,7 @@ use mathlib.Core.Path.{_≡_, refl, sym, ap, _∙_}
 use mathlib.Core.Bool.{true}
 use mathlib.Core.List.{List, [], _∷_, _++_, map, append-assoc, append-nil}
 use native.Mathlib.Numerals.{add-one}
-use native.Mathlib.Nat.{le-trans}
+use native.Mathlib.Nat.{le-trans, not-suc-le-zero, le-of-suc-le-suc}
 use native.Mathlib.Omega.{arith}
 use borrow.Author.Tests.{le-leb}
 use lib.ListN.{length, take, drop, length-append}
@@ -139,6 +139,19 @@ start-words p (d ∷ ds) =
     ∙ ap (λ (x : ℕ). length (d .values) + x) (start-words p ds)
     ∙ sym (length-append (d .values) (valueWords ds))
 
+-- the pairs of a table of diagonals
+pub offset-table : (n : ℕ) (f : ℕ → Diagonal) (i : ℕ) → i < n → offsetAt (pairWords (tabulate n f)) i ≡ f i .offset
+unfolding pairWords
+offset-table zero f i l = absurd (not-suc-le-zero l)
+offset-table (suc n) f zero l = offset-first (f 0) (pairWords (tabulate n (λ k. f (suc k))))
+offset-table (suc n) f (suc i) l = offset-behind (f 0) (pairWords (tabulate n (λ k. f (suc k)))) i ∙ offset-table n (λ k. f (suc k)) i (le-of-suc-le-suc l)
+
+pub length-table : (n : ℕ) (f : ℕ → Diagonal) (i : ℕ) → i < n → lengthAt (pairWords (tabulate n f)) i ≡ length (f i .values)
+unfolding pairWords
+length-table zero f i l = absurd (not-suc-le-zero l)
+length-table (suc n) f zero l = length-first (f 0) (pairWords (tabulate n (λ k. f (suc k))))
+length-table (suc n) f (suc i) l = length-behind (f 0) (pairWords (tabulate n (λ k. f (suc k)))) i ∙ length-table n (λ k. f (suc k)) i (le-of-suc-le-suc l)
+
 module _ (ds : List Diagonal) (p : List ℕ) where
   -- words in front of buffers
   pub view-inFront : (v : List ℕ) → view (length ds) (inFront (pairWords ds) p) (inFront (valueWords ds) v) ≡ ds
@@ -190,3 +203,14 @@ words-formed slots ds p v m h k =
     (omega (arith, length-pairWords ds, length-inFront (pairWords ds) p (omega (arith, length-pairWords ds))))
     (omega (arith, start-inFront ds p, length-inFront (valueWords ds) v k))
     (rw view-inFront m)
+
+-- the words of a map alone
+module _ (ds : List Diagonal) where
+  pub view-alone : view (length ds) (pairWords ds) (valueWords ds) ≡ ds
+  view-alone = rw (append-nil (pairWords ds), append-nil (valueWords ds)) at (view-words [] [] ds)
+
+  pub start-alone : startAt (pairWords ds) (length ds) ≡ length (valueWords ds)
+  start-alone = rw (append-nil (pairWords ds)) at (start-words [] ds)
+
+  pub formed-alone : (slots : ℕ) → FormedMap slots ds → WellFormed slots (length ds) (pairWords ds) (valueWords ds)
+  formed-alone slots m = view-formed slots (length ds) (pairWords ds) (valueWords ds) (omega (arith, length-pairWords ds)) (omega (arith, start-alone)) (rw view-alone m)

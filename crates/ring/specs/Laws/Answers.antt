@@ -38,3 +38,8 @@ no-refused h = let q : _≡_ {A = ℕ} 0 1 = cc in absurd (no-one q)
 
 pub same-value : {n v : ℕ} → Is n ≡ Is v → n ≡ v
 same-value h = cc
+
+-- a refusal says nothing of the value
+pub refused-alike : (e v w x : ℕ) → Refused x ≡ answered e v → Refused x ≡ answered e w
+refused-alike zero v w x h = no-refused h
+refused-alike (suc e) v w x h = h

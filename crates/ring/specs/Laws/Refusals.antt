@@ -1,13 +1,15 @@
 -- Laws of refusals and of what a buffer holds after one.
 -- Assumes nothing.
 use Prim.Native.Nat.{ℕ, zero, suc, _≤_}
-use mathlib.Core.Path.{_≡_, refl}
-use mathlib.Core.Bool.{Bool, true, false, _||_, true≢false}
+use mathlib.Core.Path.{_≡_, refl, sym}
+use mathlib.Core.Bool.{Bool, true, false, not, _||_, true≢false}
 use mathlib.Core.List.{List, [], _∷_, _++_}
+use native.Mathlib.Nat.{le-refl}
 use lib.Dec.{ltb}
-use borrow.Author.Tests.{ltb-false, le-ltb}
-use Rattle.ring.specs.Lists.{Each}
-use Rattle.ring.specs.Refusals.{pick, firstOf, onAccept, outside}
+use borrow.Author.Tests.{ltb-false, le-ltb, not-true}
+use Rattle.ring.specs.Lists.{some, Each}
+use Rattle.ring.specs.Refusals.{pick, firstOf, turnOf, inOrder, onAccept, outside}
+use Rattle.ring.specs.Laws.Searches.{first, second}
 
 -- where the number is not a literal: a refused call leaves what was held
 pub onAccept-refused : {A : Type 0} (r : ℕ) (new old : A) → (r ≡ 0 → ⊥) → onAccept r new old ≡ old
@@ -17,6 +19,12 @@ onAccept-refused (suc r) new old h = refl
 -- and an accepted one the new
 pub onAccept-accepted : {A : Type 0} (r : ℕ) (new old : A) → r ≡ 0 → onAccept r new old ≡ new
 onAccept-accepted r new old h = rw h
+
+-- ---- tests
+
+pub either : (a b : Bool) → (a || b) ≡ false → (a ≡ false) × (b ≡ false)
+either true b h = absurd (true≢false h)
+either false b h = (refl, h)
 
 -- ---- refusals, and further ones behind them
 
@@ -67,11 +75,25 @@ none-holds (c ∷ cs) p h =
     let q = pick-none (c .0) (c .1) (firstOf cs) (p .0) h in
     (q .0, none-holds cs (p .1) (q .1))
 
--- ---- bounds
+-- ---- the checking order
 
-pub either : (a b : Bool) → (a || b) ≡ false → (a ≡ false) × (b ≡ false)
-either true b h = absurd (true≢false h)
-either false b h = (refl, h)
+-- when a later refusal of the list is checked before n
+abbrev earlier : ℕ → Bool × ℕ → Bool
+earlier n e = ltb (turnOf (e .1)) (turnOf n)
+
+none-earlier : (n : ℕ) (cs : List (Bool × ℕ)) → some (earlier n) cs ≡ false → Each (λ c. c .0 ≡ true → turnOf n ≤ turnOf (c .1)) cs
+none-earlier n [] h = tt
+none-earlier n (c ∷ cs) h =
+    let q = either (earlier n c) (some (earlier n) cs) h in
+    (λ _. ltb-false (turnOf (c .1)) (turnOf n) (q .0), none-earlier n cs (q .1))
+
+-- of a call whose refusals stand in checking order, the number that is given is checked no later than any that applies
+pub checked-first : (cs : List (Bool × ℕ)) → inOrder cs ≡ true → Each (λ c. c .0 ≡ true → turnOf (firstOf cs) ≤ turnOf (c .1)) cs
+checked-first [] h = tt
+checked-first ((true, n) ∷ cs) h = (λ _. le-refl _, none-earlier n cs (not-true _ (first (not (some (earlier n) cs)) (inOrder cs) h)))
+checked-first ((false, n) ∷ cs) h = (λ q. absurd (true≢false (sym q)), checked-first cs (second (not (some (earlier n) cs)) (inOrder cs) h))
+
+-- ---- bounds
 
 -- what is not outside is in 1..=65536
 pub inside : (n : ℕ) → outside n ≡ false → (1 ≤ n) × (n ≤ 65536)

@@ -2,49 +2,18 @@
 -- Assumes nothing.
 use Prim.Native.Nat.{ℕ, suc, _+_, _*_, _-_, _/_, _%_, _≤_, _<_}
 use mathlib.Core.Path.{_≡_, sym, ap, _∙_}
-use mathlib.Core.List.{List, _++_}
+use mathlib.Core.List.{List}
 use mathlib.Core.Logic.{_≢_}
 use native.Mathlib.Nat.{mul-le-mul-right, suc-mul, mod-eq-of-lt, div-eq-of-lt, add-comm, zero-add, add-mul-div-right, add-mul-mod-self-right}
 use native.Mathlib.Decide.{decLt}
 use native.Mathlib.Omega.{arith}
-use lib.ListN.{length, getD, take, drop, length-take, length-drop, length-append, List·getD-append}
-use lib.Seq.{length-take-le, getD-take, getD-drop, getD-append-add, ext-getD}
+use lib.ListN.{length, getD, drop, length-drop}
+use lib.Seq.{length-take-le, getD-take, getD-drop, ext-getD}
 use Rattle.ring.specs.Lists.{join}
 use Rattle.ring.specs.Vectors.{tabulate, inFront, putAt}
-use Rattle.ring.specs.Laws.Vectors.{length-inFront, inFront-new, inFront-old, length-tabulate, getD-tabulate, join-tables}
+use Rattle.ring.specs.Laws.Vectors.{length-inFront, inFront-new, length-tabulate, getD-tabulate, join-tables}
+use Rattle.ring.specs.Laws.Places.{length-putAt, putAt-before, putAt-new, putAt-behind}
 use Rattle.runs.specs.Machines.{vectorAt, putVector}
-
--- ---- words put over others
-
-module _ {A : Type 0} (at : ℕ) (new old : List A) (fit : at + length new ≤ length old) where
-  pub length-putAt : length (putAt at new old) ≡ length old
-  unfolding putAt
-  length-putAt =
-      length-append (take at old) (inFront new (drop at old))
-      ∙ rw (length-inFront new (drop at old) (rw length-drop (omega arith)))
-      (simp (length-take, length-drop) (omega arith))
-
-  front : length (take at old) ≡ at
-  front = length-take-le at old (omega arith)
-
-  pub putAt-before : (i : ℕ) (d : A) → i < at → getD (putAt at new old) i d ≡ getD old i d
-  unfolding putAt
-  putAt-before i d h = List·getD-append (take at old) (inFront new (drop at old)) d i (omega (arith, front)) ∙ getD-take at old i d h
-
-  pub putAt-new : (i : ℕ) (d : A) → i < length new → getD (putAt at new old) (at + i) d ≡ getD new i d
-  unfolding putAt
-  putAt-new i d h =
-      ap (λ (x : ℕ). getD (take at old ++ inFront new (drop at old)) (x + i) d) (sym front)
-      ∙ getD-append-add (take at old) (inFront new (drop at old)) i d
-      ∙ inFront-new new (drop at old) i d h
-
-  pub putAt-behind : (i : ℕ) (d : A) → length new ≤ i → getD (putAt at new old) (at + i) d ≡ getD old (at + i) d
-  unfolding putAt
-  putAt-behind i d h =
-      ap (λ (x : ℕ). getD (take at old ++ inFront new (drop at old)) (x + i) d) (sym front)
-      ∙ getD-append-add (take at old) (inFront new (drop at old)) i d
-      ∙ inFront-old new (drop at old) i d h
-      ∙ getD-drop at old i d
 
 -- ---- vectors
 

@@ -1,10 +1,10 @@
--- The walk that checks a map: what the loop of `is_formed` keeps, a turn, and each way out.
+-- The walk that checks the pairs of a map one after the other: what it keeps, a turn, and each way out.
 -- Assumes nothing.
 use Prim.Native.Nat.{ℕ, zero, suc, _+_, _*_, _≤_, _<_}
 use mathlib.Core.Path.{_≡_, refl, sym, ap, _∙_}
 use mathlib.Core.Bool.{Bool, true, false, _&&_}
 use mathlib.Core.List.{List}
-use native.Mathlib.Nat.{le-refl, le-of-dvd, le-trans}
+use native.Mathlib.Nat.{le-of-dvd, le-trans}
 use native.Mathlib.Numerals.{add-one}
 use native.Mathlib.Omega.{arith}
 use borrow.Author.Count.{below-none, below-more}
@@ -25,17 +25,16 @@ pub record Stored (slots : ℕ) (pairs : List ℕ) (i : ℕ) : Type 0 where
   pub divisor : Divisor slots (lengthAt pairs i)
   pub next : nextOf pairs i ≤ offsetAt pairs i
 
-pub record Checking (slots count : ℕ) (pairs : List ℕ) (total next last i : ℕ) : Type 0 where
+pub record Checking (slots count : ℕ) (pairs : List ℕ) (total next i : ℕ) : Type 0 where
   pub room : i ≤ count
   pub so-far : (j : ℕ) → j < i → Stored slots pairs j
   pub next-is : next ≡ nextOf pairs i
   pub low : i ≤ next
   pub high : next ≤ slots
-  pub divisor : Divisor slots last
   pub total-is : total ≡ startAt pairs i
   pub small : total ≤ i * 65536
 
-pub checking-none : (slots count : ℕ) (pairs : List ℕ) → Checking slots count pairs 0 0 1 0
+pub checking-none : (slots count : ℕ) (pairs : List ℕ) → Checking slots count pairs 0 0 0
 checking-none slots count pairs =
     record {
       room = omega arith;
@@ -43,15 +42,14 @@ checking-none slots count pairs =
       next-is = refl;
       low = omega arith;
       high = omega arith;
-      divisor = record { some = le-refl 1; divides = native.Mathlib.Nat.one-dvd slots };
       total-is = refl;
       small = omega arith;
     }
 
-module _ {slots count : ℕ} {pairs : List ℕ} {total next last i : ℕ} (c : Checking slots count pairs total next last i) (l : i < count) {offset len : ℕ} (eo : offset ≡ offsetAt pairs i) (el : len ≡ lengthAt pairs i) where
+module _ {slots count : ℕ} {pairs : List ℕ} {total next i : ℕ} (c : Checking slots count pairs total next i) (l : i < count) {offset len : ℕ} (eo : offset ≡ offsetAt pairs i) (el : len ≡ lengthAt pairs i) where
   -- a turn
   module _ (s : (1 ≤ slots) × (slots ≤ 65536)) (a : next ≤ offset) (b : offset < slots) (p : (leb 1 len && divides len slots) ≡ true) where
-    divisor-more : Divisor slots len
+    pub divisor-more : Divisor slots len
     divisor-more = record { some = leb-true _ _ (first (leb 1 len) (divides len slots) p); divides = divides-dvd _ _ (second (leb 1 len) (divides len slots) p) }
 
     pub len-small : len ≤ 65536
@@ -60,7 +58,7 @@ module _ {slots count : ℕ} {pairs : List ℕ} {total next last i : ℕ} (c : C
     stored-here : Stored slots pairs i
     stored-here = record { low = omega arith; divisor = rw (← el) divisor-more; next = omega (arith, c .next-is) }
 
-    pub checking-more : Checking slots count pairs (total + len) (offset + 1) len (i + 1)
+    pub checking-more : Checking slots count pairs (total + len) (offset + 1) (i + 1)
     checking-more =
         record {
           room = omega arith;
@@ -68,7 +66,6 @@ module _ {slots count : ℕ} {pairs : List ℕ} {total next last i : ℕ} (c : C
           next-is = rw (add-one i, add-one offset) (ap suc eo);
           low = omega (arith, c .low);
           high = omega arith;
-          divisor = divisor-more;
           total-is = rw (el, c .total-is) (sym (start-more pairs i));
           small = omega (arith, c .small, len-small);
         }
@@ -96,7 +93,7 @@ module _ {slots count : ℕ} {pairs : List ℕ} {total next last i : ℕ} (c : C
             both (le-leb _ _ (rw (f .whole) at (f .formed .some))) (divides-yes _ _ (rw (f .whole) at (f .formed .divides)))
 
 -- all pairs are looked at, and the values decide
-module _ {slots count : ℕ} {pairs : List ℕ} {total next last i : ℕ} (c : Checking slots count pairs total next last i) (h : count ≤ i) (values : List ℕ) where
+module _ {slots count : ℕ} {pairs : List ℕ} {total next i : ℕ} (c : Checking slots count pairs total next i) (h : count ≤ i) (values : List ℕ) where
   total-is : total ≡ startAt pairs count
   total-is = let e : i ≡ count = omega (arith, c .room) in c .total-is ∙ ap (startAt pairs) e
 
