@@ -1,6 +1,6 @@
 /* The C library: the calls of the crates under C names, proved for all arguments.
  *
- * A refusal is document 01's number, 0 for none: the first of the call's list that applies. A refused call leaves every
+ * A refusal is document 01's or 02's number, 0 for none: the first of the call's list that applies. A refused call leaves every
  * lent word and record as it was, and its value is 0. A slice is a pointer and a count; of a count of 0 the pointer is not
  * read. Lent outputs overlap nothing else that is lent to the same call.
  *
@@ -139,6 +139,42 @@ struct sibukyaran_numbers sibukyaran_shrink_period(size_t slots, size_t count, c
 struct sibukyaran_numbers sibukyaran_transpose(size_t slots, size_t count, const uint32_t *pairs, size_t pairs_len,
                                                const uint64_t *values, size_t values_len, uint32_t *pairs_out,
                                                size_t pairs_out_len, uint64_t *values_out, size_t values_out_len);
+
+/* ---- Map files: the same bytes for a map at both ends.
+ *
+ * A file is slots and the number of pairs, four bytes each, then the pairs, four bytes a number, then the values, eight bytes
+ * each, all least byte first. 13: the bytes are no file of a map: they are short, long or not well formed, or their slots are
+ * outside 1..65536. 12: a lent output is shorter than the whole result. Bytes and words behind a result are kept. */
+
+/* The room that a file's map needs beside a refusal; 0 where refused. */
+struct sibukyaran_file_room_numbers {
+    uint32_t refusal;
+    size_t pairs;  /* words of pairs */
+    size_t values; /* words of values */
+};
+
+/* A map's slots and number of pairs beside a refusal; 0 where refused. */
+struct sibukyaran_file_map_numbers {
+    uint32_t refusal;
+    size_t slots;
+    size_t count;
+};
+
+/* The number of bytes of a map's file. 1, 2: the map is refused. */
+struct sibukyaran_numbers sibukyaran_map_file_size(size_t slots, size_t count, const uint32_t *pairs, size_t pairs_len,
+                                                   const uint64_t *values, size_t values_len);
+
+/* The file of a map into out; the value is the number of its bytes. 1, 2: the map is refused. */
+struct sibukyaran_numbers sibukyaran_write_map_file(size_t slots, size_t count, const uint32_t *pairs, size_t pairs_len,
+                                                    const uint64_t *values, size_t values_len, uint8_t *out,
+                                                    size_t out_len);
+
+/* The room that the map of a file needs. */
+struct sibukyaran_file_room_numbers sibukyaran_map_file_room(const uint8_t *bytes, size_t bytes_len);
+
+/* The map of a file into pairs and values. */
+struct sibukyaran_file_map_numbers sibukyaran_read_map_file(const uint8_t *bytes, size_t bytes_len, uint32_t *pairs,
+                                                            size_t pairs_len, uint64_t *values, size_t values_len);
 
 /* ---- Strategies. A strategy is its kind and its giant step, which Direct has not: any number stands for it there. A
  * kind that there is not is refused by 3. */

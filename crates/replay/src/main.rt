@@ -1,5 +1,6 @@
 // Answers the recorded calls: reads them from standard input and writes the answers, a line each,
 // for the comparison with the Rust's recorded answers (docs/SAMPLE.md has the format).
+mod file_calls;
 mod keyed_calls;
 mod list_calls;
 mod map_calls;
@@ -13,10 +14,13 @@ mod showing;
 mod words;
 
 // The kinds of the calls, from code 0 on: n of numbers alone, l of lists, m of a map behind a head, s of
-// a list behind a strategy, r of one behind rotations, x of matrices, k of the keyed run. It is a table
-// because a pattern for each code costs more to prove.
+// a list behind a strategy, r of one behind rotations, x of matrices, k of the keyed run, f of bytes. It
+// is a table because a pattern for each code costs more to prove.
 fn kind(code: u64) -> u8 {
-    reading::byte_at(b"-nnnnllmmllmmmmmnnnnssssssrrrrrrnnnxxxxk", code as usize)
+    reading::byte_at(
+        b"-nnnnllmmllmmmmmnnnnssssssrrrrrrnnnxxxxkmmff",
+        code as usize,
+    )
 }
 
 fn show_call(code: u64, words: &[u64]) {
@@ -28,6 +32,7 @@ fn show_call(code: u64, words: &[u64]) {
         b'r' => plan_calls::show_rotations_call(code, h, words),
         b'x' => matrix_calls::show_matrix_call(code, h, words),
         b'k' => keyed_calls::show_keyed_call(h, words),
+        b'f' => file_calls::show_file_call(code, h, words),
         _ => list_calls::show_list_call(code, h, words),
     }
     showing::end_line();

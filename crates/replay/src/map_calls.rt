@@ -5,12 +5,14 @@ use crate::numbers::narrowed;
 use crate::numbers::strategy;
 use crate::showing::show;
 use crate::showing::show_answer;
+use crate::showing::show_byte_out;
 use crate::showing::show_listed;
 use crate::showing::show_out;
 use crate::showing::show_two;
 use crate::showing::show_words;
 use crate::showing::show_written;
 use crate::words::Head;
+use crate::words::byte_lent;
 use crate::words::front;
 use crate::words::head_of;
 use crate::words::lent;
@@ -27,6 +29,7 @@ fn list_at(code: u64) -> usize {
         12 => 2,
         13 => 4,
         14 => 1,
+        41 => 1,
         _ => 0,
     }
 }
@@ -66,6 +69,8 @@ fn show_with_map(
         13 => show_product(h, list, m, pairs, values),
         14 => show_indexes(h.n0, m, pairs, values),
         15 => show_test(diagonals::is_empty(m.n0, m.n1, pairs, values)),
+        40 => show_answer(map_file::map_file_size(m.n0, m.n1, pairs, values)),
+        41 => show_file(h.n0, m, pairs, values),
         _ => show_made(code, h, m, pairs, values),
     }
 }
@@ -100,6 +105,13 @@ fn show_indexes(n: usize, m: Head, pairs: &[u32], values: &[u64]) {
     let mut out = [7u32; 512];
     let a = diagonals::indexes(m.n0, m.n1, pairs, values, narrow_lent(&mut out, n));
     show_listed(a, out, n);
+}
+
+fn show_file(n: usize, m: Head, pairs: &[u32], values: &[u64]) {
+    let mut out = [7u8; 512];
+    let a = map_file::write_map_file(m.n0, m.n1, pairs, values, byte_lent(&mut out, n));
+    show_answer(a);
+    show_byte_out(out, n);
 }
 
 // The maps made of a map. The head is the lengths of what is written.

@@ -13,11 +13,23 @@ pub(crate) fn narrow(w: u64) -> u32 {
     (w % 0x1_0000_0000) as u32
 }
 
-// The first 512 words modulo 2^32; zeros behind them, here and below.
+pub(crate) fn byte(w: u64) -> u8 {
+    (w % 256) as u8
+}
+
+// The first 512 words modulo 2^32 (a byte each: modulo 256); zeros behind them, here and below.
 pub(crate) fn narrowed(words: &[u64]) -> [u32; 512] {
     let mut out = [0u32; 512];
     for i in 0..512 {
         out[i] = narrow(word_at(words, i));
+    }
+    out
+}
+
+pub(crate) fn bytes_of(words: &[u64]) -> [u8; 512] {
+    let mut out = [0u8; 512];
+    for i in 0..512 {
+        out[i] = byte(word_at(words, i));
     }
     out
 }

@@ -1,4 +1,5 @@
 // The numbers of an answer. What a call wrote comes by value, since a loan costs more to prove.
+use crate::words::byte_front;
 use crate::words::front;
 use crate::words::narrow_front;
 
@@ -44,6 +45,12 @@ pub(crate) fn show_narrow_words(words: &[u32]) {
     }
 }
 
+pub(crate) fn show_bytes(bytes: &[u8]) {
+    for i in 0..bytes.len() {
+        show_next(bytes[i] as u64);
+    }
+}
+
 // The first n words of what a call wrote, here and below.
 pub(crate) fn show_out(out: [u64; 512], n: usize) {
     show_words(front(&out, n));
@@ -51,6 +58,10 @@ pub(crate) fn show_out(out: [u64; 512], n: usize) {
 
 pub(crate) fn show_narrow_out(out: [u32; 512], n: usize) {
     show_narrow_words(narrow_front(&out, n));
+}
+
+pub(crate) fn show_byte_out(out: [u8; 512], n: usize) {
+    show_bytes(byte_front(&out, n));
 }
 
 // A list that a call wrote, with its answer.

@@ -65,6 +65,13 @@ pub(crate) fn narrow_front(words: &[u32], n: usize) -> &[u32] {
     &words[0..n]
 }
 
+pub(crate) fn byte_front(bytes: &[u8], n: usize) -> &[u8] {
+    if bytes.len() < n {
+        return bytes;
+    }
+    &bytes[0..n]
+}
+
 pub(crate) fn signed_front(words: &[i64], n: usize) -> &[i64] {
     if words.len() < n {
         return words;
@@ -80,6 +87,13 @@ pub(crate) fn lent(out: &mut [u64], n: usize) -> &mut [u64] {
 }
 
 pub(crate) fn narrow_lent(out: &mut [u32], n: usize) -> &mut [u32] {
+    if out.len() < n {
+        return out;
+    }
+    &mut out[0..n]
+}
+
+pub(crate) fn byte_lent(out: &mut [u8], n: usize) -> &mut [u8] {
     if out.len() < n {
         return out;
     }

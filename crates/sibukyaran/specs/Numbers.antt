@@ -29,6 +29,10 @@ use Rattle.linear_transformation.specs.Trees.{flag}
 use Rattle.runs.specs.declared.keyed.KeyedAnswer.{KeyedAnswer}
 use Rattle.runs.specs.Keyed.{Lent, keyedNumbers, KeyedRun}
 use Rattle.sibukyaran.specs.declared.KeyedNumbers.{KeyedNumbers}
+use Rattle.map_file.specs.declared.reading.FileMap.{FileMap}
+use Rattle.map_file.specs.Calls.{mapNumbers, FileRead}
+use Rattle.sibukyaran.specs.declared.files.FileRoomNumbers.{FileRoomNumbers}
+use Rattle.sibukyaran.specs.declared.files.FileMapNumbers.{FileMapNumbers}
 
 abbrev pub told : Numbers → ℕ × ℕ
 told r = (r .refusal, r .value)
@@ -89,3 +93,16 @@ pub record KeyedTold (slots count : ℕ) (pairs values input : List ℕ) (strate
   pub answer : KeyedAnswer
   pub tells : toldKeyed r ≡ keyedNumbers answer
   pub written : KeyedRun slots count pairs values input strategy held n old new answer
+
+-- ---- map files
+
+abbrev pub toldRoom : FileRoomNumbers → List ℕ
+toldRoom r = r .refusal ∷ r .pairs ∷ r .values ∷ []
+
+abbrev pub toldMap : FileMapNumbers → List ℕ
+toldMap r = r .refusal ∷ r .slots ∷ r .count ∷ []
+
+pub record FileTold (bytes pairs₀ pairs₁ values₀ values₁ : List ℕ) (r : FileMapNumbers) : Type 0 where
+  pub answer : FileMap
+  pub tells : toldMap r ≡ mapNumbers answer
+  pub written : FileRead bytes pairs₀ pairs₁ values₀ values₁ answer

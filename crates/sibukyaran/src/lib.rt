@@ -1,5 +1,6 @@
 // The C library: each call of the crates below under a C name (include/sibukyaran.h). An answer
 // comes as its two numbers.
+mod files;
 mod keyed;
 mod kinds;
 mod matrices;

@@ -4,7 +4,7 @@ use std::hint::black_box;
 use std::process::ExitCode;
 use std::time::{Duration, Instant};
 
-use crate::{diagonals, keyed, matrices, plans, ring, runs};
+use crate::{diagonals, files, keyed, matrices, plans, ring, runs};
 
 pub use std::hint::black_box as keep;
 
@@ -72,13 +72,14 @@ impl Bench {
 
 /// The lines of every layer, or of the one that is named.
 pub fn run(layer: Option<&str>) -> ExitCode {
-    let layers: [(&str, fn(&mut Bench)); 6] = [
+    let layers: [(&str, fn(&mut Bench)); 7] = [
         ("ring", ring::bench),
         ("diagonals", diagonals::bench),
         ("plans", plans::bench),
         ("matrices", matrices::bench),
         ("runs", runs::bench),
         ("keyed", keyed::bench),
+        ("files", files::bench),
     ];
     let mut bench = Bench::default();
     for (name, lines) in layers {

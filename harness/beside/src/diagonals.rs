@@ -97,7 +97,7 @@ pub fn written(pairs: &[u32], values: &[u64], call: impl FnOnce(&mut [u32], &mut
 }
 
 /// Buffers for a result: just full, longer, and one short in either.
-fn buffers(random: &mut Random, result: &Stored) -> Vec<(Vec<u32>, Vec<u64>)> {
+pub fn buffers(random: &mut Random, result: &Stored) -> Vec<(Vec<u32>, Vec<u64>)> {
     let (p, v) = (result.pairs.len(), result.values.len());
     let mut lengths = vec![(p, v), (p + random.below(7), v + random.below(7)), (p + 1, v + 1)];
     if p > 0 {
@@ -181,7 +181,7 @@ fn every_terms(slots: usize, period: usize) -> Vec<Terms> {
 }
 
 /// The slot counts of the random maps.
-fn slot_counts() -> impl Iterator<Item = usize> {
+pub fn slot_counts() -> impl Iterator<Item = usize> {
     (1..=400).chain([1_024, 4_096, 46_189, 59_049, 65_535, 65_536])
 }
 

@@ -5,6 +5,7 @@
 
 mod bench;
 mod diagonals;
+mod files;
 mod keyed;
 mod keys;
 mod linear_transformation;
@@ -28,6 +29,7 @@ fn compare() -> ExitCode {
         let mut tally = tally::Tally::default();
         ring::compare(&mut tally);
         diagonals::compare(&mut tally);
+        files::compare(&mut tally);
         linear_transformation::compare(&mut tally);
         plans::compare(&mut tally);
         keys::compare(&mut tally);

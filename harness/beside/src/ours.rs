@@ -90,6 +90,24 @@ impl KeyedNumbers {
     }
 }
 
+/// The room that a file's map needs: words of pairs, and values.
+#[repr(C)]
+#[derive(Clone, Copy, PartialEq, Eq, Debug)]
+pub struct FileRoomNumbers {
+    pub refusal: u32,
+    pub pairs: usize,
+    pub values: usize,
+}
+
+/// Slots and the number of pairs of a map that was read.
+#[repr(C)]
+#[derive(Clone, Copy, PartialEq, Eq, Debug)]
+pub struct FileMapNumbers {
+    pub refusal: u32,
+    pub slots: usize,
+    pub count: usize,
+}
+
 /// A lent map.
 #[derive(Clone, Copy, Debug)]
 pub struct Map<'a> {
@@ -100,7 +118,10 @@ pub struct Map<'a> {
 }
 
 mod c {
-    use super::{KeyedNumbers, Numbers, PairRecord, PassNumbers, PlanNumbers, SignedDigit, TreeNumbers, Truth};
+    use super::{
+        FileMapNumbers, FileRoomNumbers, KeyedNumbers, Numbers, PairRecord, PassNumbers, PlanNumbers, SignedDigit,
+        TreeNumbers, Truth,
+    };
 
     unsafe extern "C" {
         pub safe fn sibukyaran_wrapping_mul(a: u64, b: u64) -> u64;
@@ -146,6 +167,15 @@ mod c {
             vn: usize,
         ) -> Numbers;
         pub fn sibukyaran_rotate_slots_into(src: *const u64, n: usize, k: i64, out: *mut u64, m: usize) -> u32;
+        pub fn sibukyaran_map_file_room(bytes: *const u8, n: usize) -> FileRoomNumbers;
+        pub fn sibukyaran_read_map_file(
+            bytes: *const u8,
+            n: usize,
+            p: *mut u32,
+            pn: usize,
+            v: *mut u64,
+            vn: usize,
+        ) -> FileMapNumbers;
     }
 
     /// Functions that are lent a map and no more than read it: the map's six arguments, then the others.
@@ -173,6 +203,8 @@ mod c {
         sibukyaran_get_into(index: i64, out: *mut u64, out_len: usize) -> Numbers;
         sibukyaran_shrink_period(po: *mut u32, pon: usize, vo: *mut u64, von: usize) -> Numbers;
         sibukyaran_transpose(po: *mut u32, pon: usize, vo: *mut u64, von: usize) -> Numbers;
+        sibukyaran_map_file_size() -> Numbers;
+        sibukyaran_write_map_file(out: *mut u8, out_len: usize) -> Numbers;
         sibukyaran_evaluate(input: *const u64, n: usize, kind: u32, giant_step: usize, out: *mut u64, m: usize) -> u32;
         sibukyaran_evaluate_keyed(
             input: *const u64,
@@ -438,6 +470,31 @@ pub fn transpose(map: Map, pairs: &mut [u32], values: &mut [u64]) -> Numbers {
     on_map!(sibukyaran_transpose, map, pairs.as_mut_ptr(), pairs.len(), values.as_mut_ptr(), values.len())
 }
 
+pub fn map_file_size(map: Map) -> Numbers {
+    on_map!(sibukyaran_map_file_size, map)
+}
+
+pub fn write_map_file(map: Map, out: &mut [u8]) -> Numbers {
+    on_map!(sibukyaran_write_map_file, map, out.as_mut_ptr(), out.len())
+}
+
+pub fn map_file_room(bytes: &[u8]) -> FileRoomNumbers {
+    unsafe { c::sibukyaran_map_file_room(bytes.as_ptr(), bytes.len()) }
+}
+
+pub fn read_map_file(bytes: &[u8], pairs: &mut [u32], values: &mut [u64]) -> FileMapNumbers {
+    unsafe {
+        c::sibukyaran_read_map_file(
+            bytes.as_ptr(),
+            bytes.len(),
+            pairs.as_mut_ptr(),
+            pairs.len(),
+            values.as_mut_ptr(),
+            values.len(),
+        )
+    }
+}
+
 /// A strategy as C's two numbers.
 pub fn strategy_words(strategy: Strategy) -> (u32, usize) {
     match strategy {
@@ -528,13 +585,17 @@ pub fn watched_keyed(job: Job, held: &Buffers) -> (KeyedNumbers, Buffers, bool) 
     (numbers, Buffers { plan, records, cache, nodes, log, out }, [a, b, c, d, e, f] == [true; 6])
 }
 
-/// What is lent: words and records.
+/// What is lent: bytes, words and records.
 pub trait Element: Copy + PartialEq {
     /// What stands on either side of a lent buffer.
     const GUARD: [Self; 4];
 }
 
 const GUARD: u32 = 0x5a5a_1234;
+
+impl Element for u8 {
+    const GUARD: [u8; 4] = GUARD.to_le_bytes();
+}
 
 impl Element for u32 {
     const GUARD: [u32; 4] = [GUARD; 4];

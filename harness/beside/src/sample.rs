@@ -8,7 +8,7 @@ use std::process::ExitCode;
 
 use crate::ours::PairRecord;
 use crate::tally::Tally;
-use crate::{diagonals, keyed, keys, linear_transformation, matrices, plans, ring, runs};
+use crate::{diagonals, files, keyed, keys, linear_transformation, matrices, plans, ring, runs};
 
 #[derive(Default)]
 pub struct Sample {
@@ -51,6 +51,7 @@ fn made() -> Sample {
     keys::sample(&mut sample);
     matrices::sample(&mut sample);
     keyed::sample(&mut sample);
+    files::sample(&mut sample);
     assert!(sample.calls.len() <= LONGEST_TEXT, "the sample is too long: {} bytes", sample.calls.len());
     sample
 }
