@@ -2,7 +2,15 @@ include!("../assemble.rs");
 
 fn main() {
     assemble(&[
-        Part { module: "grid", file: "libs/poulpy-blas/src/layouts/grid.rs", appended: "" },
-        Part { module: "maps", file: "libs/poulpy-blas/src/layouts/maps.rs", appended: "" },
+        Part {
+            module: "grid",
+            file: "libs/poulpy-blas/src/layouts/grid.rs",
+            appended: "",
+        },
+        Part {
+            module: "maps",
+            file: "libs/poulpy-blas/src/layouts/maps.rs",
+            appended: "",
+        },
     ]);
 }

@@ -43,19 +43,26 @@ ghost use Rattle.diagonals.specs.Calls.{Judged};
 ghost use Rattle.diagonals.specs.Steps.Writing.{spin, Appending, Appended};
 ghost use Rattle.diagonals.specs.Steps.Reading.{Divisor, NoPeriod, Placed};
 
-// Whether len is at least 1 and divides slots. Most lengths of a map are that of the diagonal
-// before, which divides, so the remainder is seldom taken.
-fn is_period(slots: u32, last: u32, len: u32) -> bool
+// Whether len is at least 1 and divides slots.
+pub fn is_period(slots: u32, len: u32) -> bool
+    ensures { λ r. ⌜ r ≡ (leb 1 len && divides len slots) ⌝ }
+{
+    if len < 1 {
+        return false;
+    }
+    slots % len == 0
+}
+
+// The same. Most lengths of a map are that of the diagonal before, which divides, so the remainder is
+// seldom taken.
+fn is_next_period(slots: u32, last: u32, len: u32) -> bool
     requires { ⌜ Divisor slots last ⌝ }
     ensures { λ r. ⌜ r ≡ (leb 1 len && divides len slots) ⌝ }
 {
     if len == last {
         return true;
     }
-    if len < 1 {
-        return false;
-    }
-    slots % len == 0
+    is_period(slots, len)
 }
 
 // Whether len is 0 or no divisor of slots: the test of refusal 4.
@@ -87,7 +94,7 @@ fn is_formed(slots: u32, count: usize, pairs: &[u32], values: &[u64]) -> bool
         if slots <= offset {
             return false;
         }
-        if !is_period(slots, last, len) {
+        if !is_next_period(slots, last, len) {
             return false;
         }
         next = offset + 1;

@@ -11,13 +11,12 @@ use mir.Syntax.{w64}
 use mir.Val.{ofZ, toZ}
 use mir.ValLaws.{toZ-ofZ}
 use native.Mathlib.Decide.{ℕ-discrete}
-use native.Mathlib.Numerals.{add-one}
 use native.Mathlib.Omega.{arith}
 use borrow.Author.Tests.{eq-eqb, ne-eqb, lt-ltb, le-ltb}
 use lib.Dec.{eqb, ltb}
 use lib.IntN.{ℤ, pos, negsuc, natAbs}
 use lib.ListN.{length, getD, set, take, drop, length-set, length-append, length-map, take-append-drop, List·getD-map}
-use lib.Seq.{take-suc, take-all, split-at, length-take-le}
+use lib.Seq.{take-all, split-at, length-take-le}
 use Rattle.ring.specs.Lists.{join, Each, among}
 use Rattle.ring.specs.Vectors.{inFront}
 use Rattle.ring.specs.Searches.{below, only}
@@ -25,7 +24,7 @@ use Rattle.ring.specs.Marks.{marks}
 use Rattle.ring.specs.Refusals.{firstOf}
 use Rattle.ring.specs.declared.Answer.{Answer}
 use Rattle.ring.specs.declared.Answer.the-variants.{Refused, Is}
-use Rattle.ring.specs.Laws.Lists.{join-append}
+use Rattle.ring.specs.Laws.Lists.{join-more, join-append}
 use Rattle.ring.specs.Laws.Vectors.{inFront-more}
 use Rattle.ring.specs.Laws.Below.{below-ext}
 use Rattle.ring.specs.Laws.Refusals.{first-refused, first-later}
@@ -43,9 +42,6 @@ use Rattle.linear_transformation.proofs.BabyTables.{times, baby-is}
 -- ---- words of the elements of a list, one after the other
 
 module _ (g : ℕ → List ℕ) where
-  pub join-more : (ks : List ℕ) (t : ℕ) → t < length ks → join g (take (t + 1) ks) ≡ join g (take t ks) ++ g (getD ks t 0)
-  join-more ks t l = rw (add-one, take-suc ks t 0 l, join-append g) (ap (λ (x : List ℕ). join g (take t ks) ++ x) (append-nil (g (getD ks t 0))))
-
   pub join-split : (ks : List ℕ) (t : ℕ) → t < length ks → length (join g (take t ks)) + length (g (getD ks t 0)) ≤ length (join g ks)
   join-split ks t l =
       let e : length (join g ks) ≡ length (join g (take t ks)) + (length (g (getD ks t 0)) + length (join g (drop (suc t) ks))) = ap (λ (x : List ℕ). length (join g x)) (split-at ks t 0 l) ∙ rw (join-append g, length-append, length-append) in
@@ -61,7 +57,7 @@ tally-none g ks = record { inside = omega arith; count-is = refl }
 
 module _ {g : ℕ → List ℕ} {ks : List ℕ} {count t : ℕ} (s : Tally g ks count t) where
   pub tally-more : t < length ks → (n : ℕ) → length (g (getD ks t 0)) ≡ n → Tally g ks (count + n) (t + 1)
-  tally-more l n e = record { inside = omega arith; count-is = rw (s .count-is, ← e) (sym (ap length (join-more g ks t l) ∙ length-append (join g (take t ks)) (g (getD ks t 0)))) }
+  tally-more l n e = record { inside = omega arith; count-is = rw (s .count-is, ← e) (sym (ap length (join-more g ks t 0 l) ∙ length-append (join g (take t ks)) (g (getD ks t 0)))) }
 
   pub tally-done : length ks ≤ t → count ≡ length (join g ks)
   tally-done h = s .count-is ∙ ap (λ (x : List ℕ). length (join g x)) (take-all t ks h)
@@ -88,7 +84,7 @@ module _ {g : ℕ → List ℕ} {front ks out₀ out : List ℕ} {at t : ℕ} (s
   sieving-room h = omega (arith, s .at-is, s .len, join-split g ks t l, length-append front (join g (take t ks)), length-append front (join g ks))
 
   more : front ++ join g (take (t + 1) ks) ≡ (front ++ join g (take t ks)) ++ g (getD ks t 0)
-  more = ap (λ (x : List ℕ). front ++ x) (join-more g ks t l) ∙ sym (append-assoc front (join g (take t ks)) (g (getD ks t 0)))
+  more = ap (λ (x : List ℕ). front ++ x) (join-more g ks t 0 l) ∙ sym (append-assoc front (join g (take t ks)) (g (getD ks t 0)))
 
   pub sieving-skip : g (getD ks t 0) ≡ [] → Sieving g front ks out₀ out at (t + 1)
   sieving-skip e = record { inside = omega arith; so-far = rw (more, e, append-nil) (s .so-far); len = s .len; at-is = rw (more, e, append-nil) (s .at-is) }

@@ -2,16 +2,15 @@
 -- Assumes nothing.
 use Prim.Native.Nat.{ℕ, _+_, _*_, _≤_, _<_}
 use mathlib.Core.Path.{_≡_, refl, sym, ap, _∙_}
-use mathlib.Core.List.{List, [], _∷_, _++_, append-nil}
-use native.Mathlib.Numerals.{add-one}
+use mathlib.Core.List.{List, _++_}
+use native.Mathlib.Nat.{mul-comm}
 use native.Mathlib.Omega.{arith}
 use lib.ListN.{length, getD, take, length-append}
-use lib.Seq.{length-take-le, take-suc, take-all}
+use lib.Seq.{length-take-le, take-all}
 use Rattle.ring.specs.Lists.{join}
 use Rattle.ring.specs.Vectors.{putAt}
-use Rattle.ring.specs.Laws.Lists.{join-append}
+use Rattle.ring.specs.Laws.Lists.{join-more, length-join}
 use Rattle.ring.specs.Laws.Places.{length-putAt, put-none, put-both}
-use Rattle.map_file.specs.Laws.Telling.{length-join}
 
 -- the bytes of the first j elements stand from place `from` on
 pub record Filing {A : Type 0} (f : A → List ℕ) (from : ℕ) (xs : List A) (old new : List ℕ) (j : ℕ) : Type 0 where
@@ -29,14 +28,10 @@ module _ {A : Type 0} {f : A → List ℕ} {from : ℕ} {xs : List A} {old new :
   filing-more n size {to} {new'} d e l fit put = record { so-far = more; len = ap length more ∙ length-putAt from (join f (take (j + 1) xs)) old (omega (arith, whole)); room = omega arith }
     where
       front : length (join f (take j xs)) ≡ n * j
-      front = length-join f n size (take j xs) ∙ ap (λ (k : ℕ). n * k) (length-take-le j xs (s .room))
+      front = length-join f n size (take j xs) ∙ ap (λ (k : ℕ). k * n) (length-take-le j xs (s .room)) ∙ mul-comm j n
 
       next : join f (take (j + 1) xs) ≡ join f (take j xs) ++ f (getD xs j d)
-      next =
-          ap (λ (k : ℕ). join f (take k xs)) (add-one j)
-          ∙ ap (join f) (take-suc xs j d l)
-          ∙ join-append f (take j xs) (getD xs j d ∷ [])
-          ∙ ap (λ (t : List ℕ). join f (take j xs) ++ t) (append-nil (f (getD xs j d)))
+      next = join-more f xs j d l
 
       whole : from + length (join f (take (j + 1) xs)) ≡ to + n
       whole = ap (λ (t : List ℕ). from + length t) next ∙ omega (arith, length-append (join f (take j xs)) (f (getD xs j d)), front, size (getD xs j d))

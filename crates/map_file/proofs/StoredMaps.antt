@@ -16,6 +16,7 @@ use Rattle.ring.specs.declared.Answer.{Answer}
 use Rattle.ring.specs.declared.Answer.the-variants.{Refused, Is}
 use Rattle.ring.specs.Answers.{answered}
 use Rattle.ring.specs.Refusals.{firstOf}
+use Rattle.ring.specs.Laws.Lists.{length-join}
 use Rattle.ring.specs.Laws.Refusals.{inside, first-refused, first-later, onAccept-refused}
 use Rattle.ring.specs.Laws.Answers.{when-is, when-refused, answered-refused, no-refused, refused-alike}
 use Rattle.ring.specs.Laws.Places.{put-both, put-front}
@@ -28,7 +29,7 @@ use Rattle.map_file.specs.Files.{bytesOf, pairBytes, fileOf}
 use Rattle.map_file.specs.Calls.{mapFile, sizeAnswer, writeRefusal, FileWritten}
 use Rattle.map_file.specs.Steps.{StoredMap}
 use Rattle.map_file.specs.Laws.Numbers.{length-bytesOf}
-use Rattle.map_file.specs.Laws.Telling.{length-join, length-pairBytes, length-file}
+use Rattle.map_file.specs.Laws.Telling.{length-pairBytes, length-file}
 
 -- lengths up to 65,536 add up to 65,536 for each at most
 start-small : (pairs : List ℕ) (n : ℕ) → ((i : ℕ) → i < n → lengthAt pairs i ≤ 65536) → startAt pairs n ≤ n * 65536

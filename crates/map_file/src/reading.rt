@@ -1,10 +1,7 @@
 // The map of a file.
 ghost use mathlib.Core.Path.{_≡_};
-ghost use mathlib.Core.Bool.{_&&_};
 ghost use Prim.Native.Nat.{_+_, _*_, _≤_, _<_};
-ghost use lib.Dec.{leb};
 ghost use lib.ListN.{length};
-ghost use Rattle.ring.specs.Divisors.{divides};
 ghost use Rattle.ring.specs.Vectors.{tabulate, inFront};
 ghost use Rattle.diagonals.specs.Maps.{pairRoom, pairWords};
 ghost use Rattle.map_file.specs.Files.{numberAt, countIn, mapIn};
@@ -25,16 +22,6 @@ pub enum FileRoom {
     Is { pairs: usize, values: usize },
 }
 
-// Whether len is at least 1 and divides slots.
-fn is_period(slots: u32, len: u32) -> bool
-    ensures { λ r. ⌜ r ≡ (leb 1 len && divides len slots) ⌝ }
-{
-    if len < 1 {
-        return false;
-    }
-    slots % len == 0
-}
-
 // The number of values that well-formed pairs have. Refuses with 13 pairs that are not.
 fn total_in(bytes: &[u8], slots: u32, count: usize) -> ring::Answer
     requires { ⌜ Headed (now bytes) slots count ⌝ }
@@ -53,7 +40,7 @@ fn total_in(bytes: &[u8], slots: u32, count: usize) -> ring::Answer
         if slots <= offset {
             return ring::Answer::Refused(13);
         }
-        if !is_period(slots, len) {
+        if !diagonals::is_period(slots, len) {
             return ring::Answer::Refused(13);
         }
         next = offset + 1;

@@ -74,7 +74,7 @@ pub fn in_front<T: Copy>(result: &[T], held: &[T]) -> Option<Vec<T>> {
 }
 
 /// What a call that writes a map answers and leaves, for buffers that held these words.
-type Written = (Numbers, Vec<u32>, Vec<u64>);
+pub type Written<T = Numbers> = (T, Vec<u32>, Vec<u64>);
 
 pub fn right_written(refusal: u32, map: impl FnOnce() -> Stored, pairs: &[u32], values: &[u64]) -> Written {
     let refused = |e| (Numbers::refused(e), pairs.to_vec(), values.to_vec());
@@ -89,7 +89,11 @@ pub fn right_written(refusal: u32, map: impl FnOnce() -> Stored, pairs: &[u32], 
 }
 
 /// Ours, with the words around the buffers watched.
-pub fn written(pairs: &[u32], values: &[u64], call: impl FnOnce(&mut [u32], &mut [u64]) -> Numbers) -> (Written, bool) {
+pub fn written<T>(
+    pairs: &[u32],
+    values: &[u64],
+    call: impl FnOnce(&mut [u32], &mut [u64]) -> T,
+) -> (Written<T>, bool) {
     let (mut p, mut v) = (Lent::new(pairs), Lent::new(values));
     let answer = call(p.part(), v.part());
     let ((p, p_kept), (v, v_kept)) = (p.back(), v.back());

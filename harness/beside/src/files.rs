@@ -3,8 +3,8 @@
 
 use crate::bench::{Bench, keep};
 use crate::diagonals::{
-    Stored, any_map, buffers, damaged, every_map, in_front, map_words, right_map_refusal, rust_map, slot_counts,
-    wide_map,
+    Stored, Written, any_map, buffers, damaged, every_map, in_front, map_words, right_map_refusal, right_written, rust_map,
+    slot_counts, wide_map, written,
 };
 use crate::ours::{self, FileMapNumbers, FileRoomNumbers, Lent, Map, Numbers};
 use crate::random::Random;
@@ -80,25 +80,11 @@ fn right_room(bytes: &[u8]) -> FileRoomNumbers {
     }
 }
 
-type Read = (FileMapNumbers, Vec<u32>, Vec<u64>);
-
-fn right_read(bytes: &[u8], pairs: &[u32], values: &[u64]) -> Read {
-    let refused = |refusal| (FileMapNumbers { refusal, slots: 0, count: 0 }, pairs.to_vec(), values.to_vec());
-    let Some(map) = map_of(bytes) else {
-        return refused(13);
-    };
-    match (in_front(&map.pairs, pairs), in_front(&map.values, values)) {
-        (Some(p), Some(v)) => (FileMapNumbers { refusal: 0, slots: map.slots, count: map.count }, p, v),
-        _ => refused(12),
-    }
-}
-
-/// Ours, with what stands around the buffers watched.
-fn read(bytes: &[u8], pairs: &[u32], values: &[u64]) -> (Read, bool) {
-    let (mut p, mut v) = (Lent::new(pairs), Lent::new(values));
-    let answer = ours::read_map_file(bytes, p.part(), v.part());
-    let ((p, p_kept), (v, v_kept)) = (p.back(), v.back());
-    ((answer, p, v), p_kept && v_kept)
+fn right_read(bytes: &[u8], pairs: &[u32], values: &[u64]) -> Written<FileMapNumbers> {
+    let (refusal, map) = map_of(bytes).map_or((13, Stored::default()), |map| (0, map));
+    let slots = map.slots;
+    let (Numbers { refusal, value: count }, p, v) = right_written(refusal, || map, pairs, values);
+    (FileMapNumbers { refusal, slots: if refusal == 0 { slots } else { 0 }, count }, p, v)
 }
 
 fn same_size_and_file(cases: &mut Cases, map: &Stored, random: &mut Random) {
@@ -119,7 +105,8 @@ fn same_room_and_map(cases: &mut Cases, bytes: &[u8], lent: &[(Vec<u32>, Vec<u64
     cases.same(|| format!("{bytes:?}"), ours::map_file_room(bytes), right_room(bytes));
     for (pairs, values) in lent {
         let right = right_read(bytes, pairs, values);
-        cases.same(|| format!("{bytes:?}"), read(bytes, pairs, values), (right, true));
+        let ours = written(pairs, values, |p, v| ours::read_map_file(bytes, p, v));
+        cases.same(|| format!("{bytes:?}"), ours, (right, true));
     }
 }
 
@@ -133,8 +120,8 @@ fn small_files(n: usize) -> impl Iterator<Item = Vec<u8>> {
     (1..=n).flat_map(every_map).map(|map| file_of(Stored::of(&map).lent()))
 }
 
-/// Heads that no map has, each before some bytes that could be pairs and values.
-fn hostile() -> Vec<Vec<u8>> {
+/// Slots, count, offset and length at the limits, with and without bytes that could be values, and no bytes at all.
+fn limits() -> Vec<Vec<u8>> {
     let edges = [0, 1, 2, 3, 65_535, 65_536, 65_537, 1 << 31, u32::MAX - 1, u32::MAX];
     let mut all = vec![Vec::new()];
     for slots in edges {
@@ -216,7 +203,7 @@ pub fn compare(tally: &mut Tally) {
         },
     );
     tally.run("read_map_file, map_file_room: heads at the limits, no bytes, random bytes", |cases| {
-        for bytes in hostile() {
+        for bytes in limits() {
             same_room_and_map(cases, &bytes, &small_room());
         }
         for _ in 0..20_000 {

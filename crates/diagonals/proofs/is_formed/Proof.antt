@@ -33,13 +33,13 @@ returns c = search (fails-rise, needs)
 returns-2 : tie.Need-returns-2 Inv-loop μ-loop
 returns-2 c = search (fails-low, needs)
 
-is-period-requires : tie.Need-is-period-requires Inv-loop μ-loop
-is-period-requires c κs = search needs
+is-next-period-requires : tie.Need-is-next-period-requires Inv-loop μ-loop
+is-next-period-requires c κs = search needs
 
 returns-3 : tie.Need-returns-3 Inv-loop μ-loop
 returns-3 c =
     let k = c .before .before .before .before .before .before in
-    fails-len (k .before .loop .inv .0) (k .loop-test .taken) (c .before .before .before .before .before .offset-in .ensures) (c .before .before .before .before .length-in .ensures) _ (sym (c .before .is-period .ensures) ∙ not-true _ (c .if3 .taken))
+    fails-len (k .before .loop .inv .0) (k .loop-test .taken) (c .before .before .before .before .before .offset-in .ensures) (c .before .before .before .before .length-in .ensures) _ (sym (c .before .is-next-period .ensures) ∙ not-true _ (c .if3 .taken))
 
 add-next : tie.Need-add-next Inv-loop μ-loop
 add-next c = search needs
@@ -56,7 +56,7 @@ turn : (c : tie.After-wide Inv-loop μ-loop)
     (len ≤ 65536) × (Checking (a .slots) (a .count) (now (a .pairs)) (k .loop .total + len) (offset + 1) (k .loop .i + 1) × Divisor (a .slots) len)
 turn c =
     let k = c .before .before .before .before .before .before .before .before in
-    let p = sym (c .before .before .is-period .ensures) ∙ not-false _ (c .before .if3 .left) in
+    let p = sym (c .before .before .is-next-period .ensures) ∙ not-false _ (c .before .if3 .left) in
     let l = c .before .before .before .before .before .before .before .loop-test .taken in
     let eo = c .before .before .before .before .before .before .offset-in .ensures in
     let el = c .before .before .before .before .before .length-in .ensures in
@@ -94,7 +94,7 @@ is-formed-spec =
     length-in-requires
     returns
     returns-2
-    is-period-requires
+    is-next-period-requires
     returns-3
     add-next
     wide-requires

@@ -1,21 +1,17 @@
 -- `diagonals::is_period` meets its contract. Assumes nothing.
 use borrow.Author.Tests.{le-leb, lt-leb}
-use Rattle.ring.specs.Laws.Divisors.{divides-yes}
 use borrow.Author.Needs.{needs}
 use Rattle.diagonals.proofs.is_period.Statement.{statement}
 use Rattle.diagonals.proofs.is_period.Tie as tie
 
 returns : tie.Need-returns
-returns c = rw (c .if1 .taken, le-leb 1 _ (c .before .pre .some), divides-yes _ _ (c .before .pre .divides))
-
-returns-2 : tie.Need-returns-2
-returns-2 c = rw (lt-leb 1 _ (c .if2 .taken))
+returns c = rw (lt-leb 1 _ (c .if1 .taken))
 
 rem-result : tie.Need-rem-result
 rem-result c = search needs
 
-returns-3 : tie.Need-returns-3
-returns-3 c = rw (le-leb 1 _ (c .if2 .left))
+returns-2 : tie.Need-returns-2
+returns-2 c = rw (le-leb 1 _ (c .if1 .left))
 
 pub is-period-spec : {M : Type 1} → statement M
-is-period-spec = tie.close (tie.spec returns returns-2 rem-result returns-3)
+is-period-spec = tie.close (tie.spec returns rem-result returns-2)

@@ -10,14 +10,14 @@ use lib.Seq.{take-add, take-all, drop-drop, getD-take, getD-drop}
 use Rattle.ring.specs.Lists.{join, Each}
 use Rattle.ring.specs.Vectors.{tabulate}
 use Rattle.ring.specs.Refusals.{Range}
-use Rattle.ring.specs.Laws.Lists.{each-then, each-at}
+use Rattle.ring.specs.Laws.Lists.{length-join, each-then, each-at}
 use Rattle.ring.specs.Laws.Vectors.{length-tabulate, is-tabulate, tabulate-getD, tabulate-cong}
 use Rattle.diagonals.specs.Maps.{Diagonal, offsetAt, lengthAt, startAt, diagonalAt, pairWords, valueWords, view, FormedMap}
 use Rattle.diagonals.specs.Laws.Maps.{end-within, inside-whole, count-low}
 use Rattle.diagonals.specs.Laws.Words.{offset-table, length-table, start-alone, view-alone, formed-alone}
 use Rattle.map_file.specs.Files.{bytesOf, numberAt, pairBytes, fileOf, slotsIn, countIn, offsetIn, lengthIn, startIn, valueIn, diagonalIn, mapIn}
 use Rattle.map_file.specs.Laws.Numbers.{length-bytesOf, number-front, number-behind, number-join, number-bytes, bytes-number, join-told}
-use Rattle.map_file.specs.Laws.Telling.{length-join, length-pairBytes, length-file, length-told, values-told}
+use Rattle.map_file.specs.Laws.Telling.{length-pairBytes, length-file, length-told, values-told}
 
 -- ---- maps whose numbers have room in a file
 

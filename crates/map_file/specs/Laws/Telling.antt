@@ -2,11 +2,12 @@
 -- Assumes nothing.
 use Prim.Native.Nat.{ℕ, zero, suc, _+_, _*_, _<_}
 use mathlib.Core.Path.{_≡_, refl, sym, ap, _∙_}
-use mathlib.Core.List.{List, [], _∷_, _++_}
+use mathlib.Core.List.{List, _++_}
 use native.Mathlib.Omega.{arith}
 use lib.ListN.{length, length-append}
 use Rattle.ring.specs.Lists.{join}
 use Rattle.ring.specs.Vectors.{tabulate}
+use Rattle.ring.specs.Laws.Lists.{length-join}
 use Rattle.ring.specs.Laws.Vectors.{length-tabulate, tabulate-add, tabulate-snoc}
 use Rattle.diagonals.specs.Maps.{Diagonal, offsetAt, lengthAt, pairWords, valueWords}
 use Rattle.diagonals.specs.Laws.Words.{valueWords-more, offset-table, length-table}
@@ -14,11 +15,6 @@ use Rattle.map_file.specs.Files.{bytesOf, pairBytes, fileOf, countIn, of
 use Rattle.map_file.specs.Laws.Numbers.{length-bytesOf}
 
 -- ---- lengths
-
--- lists of one length, one after the other
-pub length-join : {A B : Type 0} (f : A → List B) (n : ℕ) → ((x : A) → length (f x) ≡ n) → (xs : List A) → length (join f xs) ≡ n * length xs
-length-join f n h [] = omega arith
-length-join f n h (x ∷ xs) = length-append (f x) (join f xs) ∙ omega (arith, h x, length-join f n h xs)
 
 pub length-pairBytes : (d : Diagonal) → length (pairBytes d) ≡ 8
 unfolding pairBytes

@@ -2,13 +2,14 @@
 -- rising numbers, and of statements about each element.
 -- Assumes nothing.
 use mathlib.Core.Path.{_≡_, refl, sym, ap, subst, _∙_}
-use mathlib.Core.List.{List, [], _∷_, _++_, map, reverse, reverseAux, reverse-cons, append-assoc}
-use Prim.Native.Nat.{ℕ, zero, suc, _*_, _%_, _<_}
+use mathlib.Core.List.{List, [], _∷_, _++_, map, reverse, reverseAux, reverse-cons, append-assoc, append-nil}
+use Prim.Native.Nat.{ℕ, zero, suc, _+_, _*_, _%_, _<_}
 use native.Mathlib.Nat.{not-suc-le-zero, le-of-suc-le-suc, zero-mod, add-zero, add-comm, add-mod-mod, zero-mul, suc-mul}
+use native.Mathlib.Numerals.{add-one}
 use native.Mathlib.Omega.{arith}
 use lib.ListN.{length, getD, take, drop, length-append, take-append-drop}
 use Rattle.ring.specs.Vectors.{tabulate}
-use lib.Seq.{drop-append-seam}
+use lib.Seq.{drop-append-seam, take-suc}
 use Rattle.ring.specs.Slots.{addm, mulm}
 use Rattle.ring.specs.Lists.{sumBy, join, Each, Rising}
 use Rattle.ring.specs.Laws.Slots.{addm-assoc, addm-mod, addm-lt, addm-swap, addm-left, zero-addm, mulm-addm, mulm-comm, zero-mulm}
@@ -134,6 +135,10 @@ module _ {A B : Type 0} where
   pub join-append : (f : A → List B) (xs ys : List A) → join f (xs ++ ys) ≡ join f xs ++ join f ys
   join-append f [] ys = refl
   join-append f (x ∷ xs) ys = rw (join-append f xs ys) (sym (append-assoc (f x) (join f xs) (join f ys)))
+
+  -- one element more, as a loop takes it
+  pub join-more : (f : A → List B) (xs : List A) (j : ℕ) (d : A) → j < length xs → join f (take (j + 1) xs) ≡ join f (take j xs) ++ f (getD xs j d)
+  join-more f xs j d l = rw (add-one, take-suc xs j d l, join-append f) (ap (λ (t : List B). join f (take j xs) ++ t) (append-nil (f (getD xs j d))))
 
   -- lists of one length
   pub length-join : (f : A → List B) (c : ℕ) → ((x : A) → length (f x) ≡ c) → (xs : List A) → length (join f xs) ≡ length xs * c

@@ -68,7 +68,7 @@ module _ {A : Type 0} where
   unfolding putAt
   put-front new old = refl
 
-  put-one : (at : ℕ) (a : A) (old : List A) → at < length old → putAt at (a ∷ []) old ≡ set old at a
+  pub put-one : (at : ℕ) (a : A) (old : List A) → at < length old → putAt at (a ∷ []) old ≡ set old at a
   unfolding putAt inFront
   put-one at a old l = ap (λ (t : List A). take at old ++ (a ∷ t)) (drop-drop 1 at old ∙ ap (λ (n : ℕ). drop n old) (add-one at)) ∙ sym (set-split old at a l)
 
