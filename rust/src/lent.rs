@@ -200,6 +200,9 @@ macro_rules! library {
     };
     (@ [$(#[$doc:meta])* $name:ident $answer:ty] [$($c:tt)*] [$($safe:tt)*] [$($on:tt)*]) => {
         $(#[$doc])*
+        #[inline]
+        // The arguments are the header's.
+        #[allow(clippy::too_many_arguments)]
         pub fn $name($($safe)*) -> $answer {
             // SAFETY: the declaration is the header's and that of the function in the archive, which tests/bindings.rs
             // holds to each other.

@@ -70,9 +70,12 @@ impl Bench {
     }
 }
 
+/// A layer's name and its lines.
+type Layer = (&'static str, fn(&mut Bench));
+
 /// The lines of every layer, or of the one that is named.
 pub fn run(layer: Option<&str>) -> ExitCode {
-    let layers: [(&str, fn(&mut Bench)); 7] = [
+    let layers: [Layer; 7] = [
         ("ring", ring::bench),
         ("diagonals", diagonals::bench),
         ("plans", plans::bench),

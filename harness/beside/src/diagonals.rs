@@ -3,9 +3,11 @@
 use std::num::Wrapping;
 
 use poulpy_core::layouts::{Diagonals, rotate_slots_into};
+use sibukyaran::lent::{self as ours, Map, Numbers, Truth};
 
 use crate::bench::{Bench, keep};
-use crate::ours::{self, Lent, Map, Numbers, Terms, Truth};
+use crate::calls::{Expected, Terms, from_slot_map};
+use crate::guards::Lent;
 use crate::random::{Random, divisors};
 use crate::ring::{outside, word};
 use crate::sample::Sample;
@@ -89,11 +91,7 @@ pub fn right_written(refusal: u32, map: impl FnOnce() -> Stored, pairs: &[u32], 
 }
 
 /// Ours, with the words around the buffers watched.
-pub fn written<T>(
-    pairs: &[u32],
-    values: &[u64],
-    call: impl FnOnce(&mut [u32], &mut [u64]) -> T,
-) -> (Written<T>, bool) {
+pub fn written<T>(pairs: &[u32], values: &[u64], call: impl FnOnce(&mut [u32], &mut [u64]) -> T) -> (Written<T>, bool) {
     let (mut p, mut v) = (Lent::new(pairs), Lent::new(values));
     let answer = call(p.part(), v.part());
     let ((p, p_kept), (v, v_kept)) = (p.back(), v.back());
@@ -367,7 +365,7 @@ fn compare_all(tally: &mut Tally) {
                     for (p, v) in [(6, 9), (4, 2 * period), (3, 2 * period), (4, 2 * period - 1)] {
                         let (pairs, values) = (vec![7; p], vec![7; v]);
                         let right = right_from_slot_map(slots, period, &terms, &pairs, &values);
-                        let ours = written(&pairs, &values, |p, v| ours::from_slot_map(slots, period, &terms, p, v));
+                        let ours = written(&pairs, &values, |p, v| from_slot_map(slots, period, &terms, p, v));
                         cases.same(|| format!("{slots} {period} {terms:?}"), ours, (right, true));
                     }
                 }
@@ -523,7 +521,7 @@ pub fn compare(tally: &mut Tally) {
                     let result = Stored { slots, count: answer.value, pairs: p, values: v };
                     for (pairs, values) in buffers(&mut random, &result) {
                         let right = right_from_slot_map(slots, period, &terms, &pairs, &values);
-                        let ours = written(&pairs, &values, |p, v| ours::from_slot_map(slots, period, &terms, p, v));
+                        let ours = written(&pairs, &values, |p, v| from_slot_map(slots, period, &terms, p, v));
                         cases.same(|| format!("{slots} {period} {terms:?}"), ours, (right, true));
                     }
                 }
@@ -681,7 +679,7 @@ pub fn bench(bench: &mut Bench) {
         bench.pair(
             "from_slot_map, 65,536 terms of a 256 by 256 sigma",
             Some(3.0),
-            || ours::from_slot_map(slots, slots, keep(&terms), &mut p, &mut v),
+            || from_slot_map(slots, slots, keep(&terms), &mut p, &mut v),
             || Words::from_slot_map(slots, slots, keep(&rust_terms).iter().copied()),
         );
     }

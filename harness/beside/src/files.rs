@@ -1,12 +1,15 @@
 //! Map files. The Rust has none: beside ours stand a writer and a reader by document 02's sentences, over the Rust's maps
 //! and the standard library's `to_le_bytes` and `from_le_bytes`.
 
+use sibukyaran::lent::{self as ours, FileMapNumbers, FileRoomNumbers, Map, Numbers};
+
 use crate::bench::{Bench, keep};
+use crate::calls::Expected;
 use crate::diagonals::{
-    Stored, Written, any_map, buffers, damaged, every_map, in_front, map_words, right_map_refusal, right_written, rust_map,
-    slot_counts, wide_map, written,
+    Stored, Written, any_map, buffers, damaged, every_map, in_front, map_words, right_map_refusal, right_written,
+    rust_map, slot_counts, wide_map, written,
 };
-use crate::ours::{self, FileMapNumbers, FileRoomNumbers, Lent, Map, Numbers};
+use crate::guards::Lent;
 use crate::random::Random;
 use crate::sample::Sample;
 use crate::tally::{Cases, Tally};

@@ -8,12 +8,13 @@ use poulpy_core::layouts::{
     Evaluate, LinearTransformationPlan, call_baby_passes, call_giant_tree, call_linear_transform_index,
     rotate_slots_into,
 };
+use sibukyaran::lent::{self as ours, BSGS_POWERS_OF_TWO, KeyedNumbers, POWERS_OF_TWO, PairRecord};
 
 use crate::bench::{Bench, keep};
+use crate::calls::{Buffers, Job, evaluate_keyed, watched_keyed};
 use crate::diagonals::{Stored, any_map, any_period, damaged, map_words, right_map_refusal, rust_map, wrapped};
 use crate::keys::tree_records;
 use crate::machine::{self, Plan};
-use crate::ours::{self, Buffers, Job, KeyedNumbers, PairRecord, Reach};
 use crate::plans::{How, accepted, any_list, any_width, plan_keys, plan_switches, plan_words, subsets, wide};
 use crate::random::Random;
 use crate::ring::{MOST, word};
@@ -130,7 +131,7 @@ fn told(job: Job) -> String {
 
 /// Ours on these buffers, beside an answer and what they should hold.
 fn check_against(cases: &mut Cases, job: Job, lent: &Buffers, (right, words): &(KeyedNumbers, Buffers)) {
-    let (numbers, now, around) = ours::watched_keyed(job, lent);
+    let (numbers, now, around) = watched_keyed(job, lent);
     cases.same(|| told(job), (numbers, differences(&now, words), around), (*right, SAME, true));
 }
 
@@ -141,7 +142,7 @@ fn check(cases: &mut Cases, job: Job, lent: &Buffers) {
 
 /// Refused by this number, with no word changed.
 fn check_refused(cases: &mut Cases, job: Job, lent: &Buffers, refusal: u32) {
-    check_against(cases, job, lent, &(KeyedNumbers::refused(refusal), lent.clone()));
+    check_against(cases, job, lent, &(machine::refused(refusal), lent.clone()));
 }
 
 /// Every n to one past the last switch, and n that are huge; buffers that are full and longer ones in turn.
@@ -225,12 +226,12 @@ fn check_finished(cases: &mut Cases, random: &mut Random, run: &Run) {
         diagonals: word(run.map.count),
         pairs: words.records.len(),
     };
-    let (numbers, now, around) = ours::watched_keyed(run.job(&keys, switches as u64), &lent);
+    let (numbers, now, around) = watched_keyed(run.job(&keys, switches as u64), &lent);
     words.nodes.clone_from(&now.nodes);
     let call = || told(run.job(&keys, switches as u64));
     cases.same(call, (numbers, differences(&now, &words), around), (right, SAME, true));
     if let Some(before) = switches.checked_sub(1) {
-        let (numbers, now, _) = ours::watched_keyed(run.job(&keys, before as u64), &lent);
+        let (numbers, now, _) = watched_keyed(run.job(&keys, before as u64), &lent);
         let right = KeyedNumbers { switches: before, finished: false, ..right };
         cases.same(call, (numbers, difference(&now.out, &lent.out)), (right, None));
         let missing = keys[random.below(keys.len())];
@@ -387,7 +388,7 @@ fn check_examples(cases: &mut Cases, random: &mut Random) {
     for (kind, keys, records, log) in jobs {
         let run = example(random, kind);
         let lent = lent(random, [18, records.len(), 3 * 16, 3 * 16, log.len(), 16]);
-        let (ours, now, _) = ours::watched_keyed(run.job(keys, 6), &lent);
+        let (ours, now, _) = watched_keyed(run.job(keys, 6), &lent);
         let right = KeyedNumbers { switches: log.len(), pairs: records.len(), ..numbers };
         let written = (&now.plan[..], &now.records[..], &now.log[..]);
         cases.same(|| format!("E6, E7, kind {kind}"), (ours, written), (right, (&E6_PLAN[..], records, log)));
@@ -404,7 +405,7 @@ fn check_empty(cases: &mut Cases, random: &mut Random, slots: usize, how: How) {
     let mut lent = lent(random, [1, 0, 0, 0, 0, slots]);
     let numbers =
         KeyedNumbers { refusal: 0, switches: 0, finished: true, babies: 1, giants: 0, diagonals: 0, pairs: 0 };
-    let (ours, now, around) = ours::watched_keyed(run.job(&[], 0), &lent);
+    let (ours, now, around) = watched_keyed(run.job(&[], 0), &lent);
     lent.plan[0] = 0;
     lent.out.fill(0);
     let call = || format!("E10, {slots} slots, {how:?}");
@@ -593,14 +594,16 @@ fn is_missing(keys: &[u32], held: &[u64]) -> bool {
 /// test. Gives whether a key is missing.
 fn prepare(run: &Run, indexes: &[i64], held: &[u64], buffers: &mut Buffers, keys: &mut [u32]) -> bool {
     assert_eq!(ours::map_refusal(keep(run.map.lent())), 0);
-    let plan = ours::index(keep(indexes), MOST, run.how, &mut buffers.plan);
-    if run.how.0 == 1 {
+    let (kind, width) = run.how;
+    let plan = ours::linear_transform_index(keep(indexes), MOST, kind, width, &mut buffers.plan);
+    if kind == BSGS_POWERS_OF_TWO {
         let giants = &buffers.plan[plan.babies as usize..][..plan.giants as usize];
         let giants: Vec<i64> = giants.iter().map(|&g| g.into()).collect();
         let (mut leaves, mut levels) = ([0; 16], [0; 32]);
-        ours::giant_tree(Reach::powers(1, 32, MOST), &giants, &mut leaves, &mut levels, &mut buffers.records);
+        let records = &mut buffers.records;
+        ours::giant_tree(POWERS_OF_TWO, 1, 32, MOST, &giants, &mut leaves, &mut levels, records);
     }
-    let count = ours::plan_keys(keep(indexes), MOST, run.how, keys).value;
+    let count = ours::plan_key_rotations(keep(indexes), MOST, kind, width, keys).value;
     is_missing(&keys[..count], keep(held))
 }
 
@@ -625,15 +628,15 @@ pub fn bench(bench: &mut Bench) {
                 bench.pair(
                     &format!("keyed, 511 of {length}, {name}, the Rust's evaluate"),
                     Some(2.0),
-                    || ours::evaluate_keyed(keep(run.job(&keys, u64::MAX)), &mut buffers),
+                    || evaluate_keyed(keep(run.job(&keys, u64::MAX)), &mut buffers),
                     || keep(&rust).evaluate(&rust_input, strategy),
                 );
             }
             bench.pair(
                 &format!("keyed, 511 of {length}, {name}, plain run"),
                 Some(1.0 / slower),
-                || ours::evaluate_keyed(keep(run.job(&keys, u64::MAX)), &mut buffers),
-                || ours::evaluate(keep(run.map.lent()), &run.input, strategy, &mut plain),
+                || evaluate_keyed(keep(run.job(&keys, u64::MAX)), &mut buffers),
+                || ours::evaluate(keep(run.map.lent()), &run.input, run.how.0, run.how.1, &mut plain),
             );
             assert_eq!(buffers.out, plain, "the keyed run and the plain run agree");
             let mut prepared = lent(&mut random, run.plan().rooms());
@@ -643,7 +646,7 @@ pub fn bench(bench: &mut Bench) {
             bench.pair(
                 &format!("keyed, n = 0, 511 of {length}, {name}, parts"),
                 Some(1.0),
-                || ours::evaluate_keyed(keep(run.job(&keys, 0)), &mut buffers),
+                || evaluate_keyed(keep(run.job(&keys, 0)), &mut buffers),
                 || prepare(&run, &indexes, &keys, &mut prepared, &mut listed),
             );
         }

@@ -1,14 +1,45 @@
 //! `BsgsRotations`: closure, passes, tree and keys of lists in any order with repeats, beside document 000.
 
-use poulpy_core::layouts::{GiantTree, call_baby_closure, call_baby_passes, call_giant_tree};
+use poulpy_core::layouts::{BsgsRotations, GiantTree, call_baby_closure, call_baby_passes, call_giant_tree};
+use sibukyaran::lent::{self as ours, Numbers, PER_ROTATION, POWERS_OF_TWO, PairRecord, PassNumbers, TreeNumbers};
 
+use crate::calls::Expected;
 use crate::diagonals::in_front;
-use crate::ours::{self, Lent, Numbers, PairRecord, PassNumbers, Reach, TreeNumbers};
+use crate::guards::Lent;
 use crate::plans::{check_listed, disguised, held, listed, narrow, pair, subsets, wide};
 use crate::random::Random;
 use crate::ring::{MOST, outside, word};
 use crate::sample::{Sample, held_records, record_numbers};
 use crate::tally::{Cases, Tally};
+
+/// Rotations as C's four numbers.
+#[derive(Clone, Copy, PartialEq, Eq, Debug)]
+struct Reach {
+    kind: u32,
+    baby_step: usize,
+    giant_step: usize,
+    slots: usize,
+}
+
+impl Reach {
+    const PER_ROTATION: Reach = Reach { kind: PER_ROTATION, baby_step: 0, giant_step: 0, slots: 0 };
+
+    fn powers(baby_step: usize, giant_step: usize, slots: usize) -> Reach {
+        Reach { kind: POWERS_OF_TWO, baby_step, giant_step, slots }
+    }
+
+    /// The Rust's.
+    fn rotations(self) -> BsgsRotations {
+        match self.kind {
+            PER_ROTATION => BsgsRotations::PerRotation,
+            _ => BsgsRotations::PowersOfTwo {
+                baby_step: self.baby_step as i64,
+                giant_step: self.giant_step as i64,
+                slots: self.slots as i64,
+            },
+        }
+    }
+}
 
 /// Document 01's refusals of the rotations.
 fn accepted(reach: Reach) -> Result<(), u32> {
@@ -153,30 +184,34 @@ fn right_tree(tree: &Grown, held: &TreeLists) -> (TreeNumbers, TreeLists) {
 
 fn check_babies(cases: &mut Cases, reach: Reach, babies: &[i64]) {
     let call = |name: &str| format!("{name} {reach:?} {babies:?}");
-    type Ours = fn(Reach, &[i64], &mut [u32]) -> Numbers;
+    let Reach { kind, baby_step, giant_step, slots } = reach;
+    type Ours = fn(u32, usize, usize, usize, &[i64], &mut [u32]) -> Numbers;
     type Right = fn(Reach, &[i64]) -> Result<Vec<u32>, u32>;
     let lists: [(&str, Ours, Right); 2] =
-        [("closure", ours::baby_closure, right_closure), ("baby keys", ours::baby_keys, right_baby_keys)];
+        [("closure", ours::baby_closure, right_closure), ("baby keys", ours::baby_key_rotations, right_baby_keys)];
     for (name, ours, right) in lists {
-        check_listed(cases, || call(name), right(reach, babies), |out| ours(reach, babies, out));
+        let list = |out: &mut [u32]| ours(kind, baby_step, giant_step, slots, babies, out);
+        check_listed(cases, || call(name), right(reach, babies), list);
     }
     let words = pass_words(reach, babies);
     let (p, m) = words.as_ref().map_or((3, 3), |(p, m)| (p.len(), m.len()));
     for (pn, mn) in [(p, m), (p.saturating_sub(1), m), (p, m.saturating_sub(1)), (p + 2, m + 5)] {
         let (passes, moves) = (held(pn), held(mn));
-        let (mut lent_passes, mut lent_moves) = (Lent::new(&passes), Lent::new(&moves));
-        let numbers = ours::baby_passes(reach, babies, lent_passes.part(), lent_moves.part());
+        let mut lent = (Lent::new(&passes), Lent::new(&moves));
+        let numbers = ours::baby_passes(kind, baby_step, giant_step, slots, babies, lent.0.part(), lent.1.part());
         let (right, passes, moves) = right_passes(&words, &passes, &moves);
-        let ours = (numbers, lent_passes.back(), lent_moves.back());
+        let ours = (numbers, lent.0.back(), lent.1.back());
         cases.same(|| call("passes"), ours, (right, (passes, true), (moves, true)));
     }
 }
 
 fn check_giants(cases: &mut Cases, reach: Reach, giants: &[i64]) {
     let call = |name: &str| format!("{name} {reach:?} {giants:?}");
-    let keys = right_giant_keys(reach, giants);
-    check_listed(cases, || call("giant keys"), keys, |out| ours::giant_keys(reach, giants, out));
-    cases.same(|| call("giant switches"), ours::giant_switches(reach, giants), right_switches(reach, giants));
+    let Reach { kind, baby_step, giant_step, slots } = reach;
+    let keys = |out: &mut [u32]| ours::giant_key_rotations(kind, baby_step, giant_step, slots, giants, out);
+    check_listed(cases, || call("giant keys"), right_giant_keys(reach, giants), keys);
+    let switches = ours::giant_key_switches(kind, baby_step, giant_step, slots, giants);
+    cases.same(|| call("giant switches"), switches, right_switches(reach, giants));
     let tree = grown(reach, giants);
     let sizes = tree_rooms(&tree);
     for short in 0..5 {
@@ -189,7 +224,8 @@ fn check_giants(cases: &mut Cases, reach: Reach, giants: &[i64]) {
         let lists = TreeLists { leaves: held(rooms[0]), levels: held(rooms[1]), records: kept_records(rooms[2]) };
         let (mut leaves, mut levels) = (Lent::new(&lists.leaves), Lent::new(&lists.levels));
         let mut records = Lent::new(&lists.records);
-        let numbers = ours::giant_tree(reach, giants, leaves.part(), levels.part(), records.part());
+        let lent = (leaves.part(), levels.part(), records.part());
+        let numbers = ours::giant_tree(kind, baby_step, giant_step, slots, giants, lent.0, lent.1, lent.2);
         let ((leaves, a), (levels, b), (records, c)) = (leaves.back(), levels.back(), records.back());
         let (right, lists) = right_tree(&tree, &lists);
         let ours = (numbers, TreeLists { leaves, levels, records }, [a, b, c]);

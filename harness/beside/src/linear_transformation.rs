@@ -1,8 +1,9 @@
 //! Diagonal indexes, baby multiples and giant digits beside document 000.
 
 use poulpy_core::layouts::{call_baby_multiple, call_giant_digit, call_normalize_linear_transform_diagonal};
+use sibukyaran::lent::{self as ours, Numbers, SignedDigit};
 
-use crate::ours::{self, Numbers, SignedDigit};
+use crate::calls::Expected;
 use crate::random::Random;
 use crate::ring::{MOST, outside};
 use crate::sample::Sample;
@@ -58,12 +59,20 @@ pub fn compare(tally: &mut Tally) {
     tally.run("normalize_linear_transform_diagonal: small, at the limits and past them", |cases| {
         for slots in 1..=40 {
             for k in -100..=100 {
-                cases.same(|| format!("{k} {slots}"), ours::normal(k, slots), right_normal(k, slots));
+                cases.same(
+                    || format!("{k} {slots}"),
+                    ours::normalize_linear_transform_diagonal(k, slots),
+                    right_normal(k, slots),
+                );
             }
         }
         for slots in counts(&mut random) {
             for k in signed(&mut random) {
-                cases.same(|| format!("{k} {slots}"), ours::normal(k, slots), right_normal(k, slots));
+                cases.same(
+                    || format!("{k} {slots}"),
+                    ours::normalize_linear_transform_diagonal(k, slots),
+                    right_normal(k, slots),
+                );
             }
         }
     });

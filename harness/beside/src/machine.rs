@@ -3,8 +3,10 @@
 
 use std::collections::{BTreeMap, BTreeSet};
 
+use sibukyaran::lent::{KeyedNumbers, Map, PairRecord};
+
+use crate::calls::{Buffers, Job};
 use crate::diagonals::right_map_refusal;
-use crate::ours::{Buffers, Job, KeyedNumbers, Map, PairRecord};
 use crate::ring::{outside, word};
 
 /// "Rotation by k: out[j] = source[(j + k) mod length]."
@@ -349,17 +351,21 @@ fn refused_by_plan(plan: &Plan, held: &[u64], lent: &Buffers) -> u32 {
     }
 }
 
+/// What a refused run answers.
+pub fn refused(refusal: u32) -> KeyedNumbers {
+    KeyedNumbers { refusal, switches: 0, finished: false, babies: 0, giants: 0, diagonals: 0, pairs: 0 }
+}
+
 /// What a keyed run answers, and what the lent buffers hold then.
 pub fn run(job: Job, lent: &Buffers) -> (KeyedNumbers, Buffers) {
-    let refused = |refusal| (KeyedNumbers::refused(refusal), lent.clone());
     let refusal = refused_before_plan(job);
     if refusal != 0 {
-        return refused(refusal);
+        return (refused(refusal), lent.clone());
     }
     let plan = Plan::of(job.map, job.kind, job.giant_step);
     let refusal = refused_by_plan(&plan, job.held, lent);
     if refusal != 0 {
-        return refused(refusal);
+        return (refused(refusal), lent.clone());
     }
     let mut machine = Machine {
         plan: &plan,

@@ -3,15 +3,18 @@
 //! `beside compare` runs both on the same calls and ends in 'N passed, M failed'. `beside record` writes the recorded
 //! sample of the Rust's answers. `beside bench` times both in one run, `beside bench LAYER` one layer alone.
 
+#![forbid(unsafe_code)]
+
 mod bench;
+mod calls;
 mod diagonals;
 mod files;
+mod guards;
 mod keyed;
 mod keys;
 mod linear_transformation;
 mod machine;
 mod matrices;
-mod ours;
 mod plans;
 mod random;
 mod ring;

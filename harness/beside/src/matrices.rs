@@ -3,10 +3,12 @@
 use std::num::Wrapping;
 
 use poulpy_blas::layouts as rust;
+use sibukyaran::lent::{self as ours, Numbers};
 
 use crate::bench::{Bench, keep};
+use crate::calls::{Expected, Terms, per_matrix_map};
 use crate::diagonals::{Stored, Words, right_written, wrapped, written};
-use crate::ours::{self, Lent, Numbers, Terms};
+use crate::guards::Lent;
 use crate::random::{Random, divisors};
 use crate::ring::{MOST, outside};
 use crate::sample::Sample;
@@ -14,22 +16,52 @@ use crate::tally::{Cases, Tally};
 
 type F = Wrapping<u64>;
 
-/// The maps that read one entry or none, and whether they have a shift.
-const RULES: [(&str, bool, fn(usize, usize, usize) -> Words); 11] = [
-    ("sigma", false, |slots, log_d, _| rust::sigma::<F>(slots, log_d)),
-    ("tau", false, |slots, log_d, _| rust::tau::<F>(slots, log_d)),
-    ("transpose", false, |slots, log_d, _| rust::transpose::<F>(slots, log_d)),
-    ("rotate_rows", true, rust::rotate_rows::<F>),
-    ("rotate_cols", true, rust::rotate_cols::<F>),
-    ("rows_upper", true, rust::rows_upper::<F>),
-    ("rows_lower", true, rust::rows_lower::<F>),
-    ("cols_left", true, rust::cols_left::<F>),
-    ("cols_right", true, rust::cols_right::<F>),
-    ("rows_left", true, rust::rows_left::<F>),
-    ("rows_right", true, rust::rows_right::<F>),
+/// A map that reads one entry or none; one that does not shift leaves k alone.
+struct Rule {
+    name: &'static str,
+    shifts: bool,
+    rust: fn(usize, usize, usize) -> Words,
+    ours: fn(usize, usize, usize, &mut [u32], &mut [u64]) -> Numbers,
+}
+
+const RULES: [Rule; 11] = [
+    Rule {
+        name: "sigma",
+        shifts: false,
+        rust: |slots, log_d, _| rust::sigma::<F>(slots, log_d),
+        ours: |slots, log_d, _, p, v| ours::sigma(slots, log_d, p, v),
+    },
+    Rule {
+        name: "tau",
+        shifts: false,
+        rust: |slots, log_d, _| rust::tau::<F>(slots, log_d),
+        ours: |slots, log_d, _, p, v| ours::tau(slots, log_d, p, v),
+    },
+    Rule {
+        name: "transpose",
+        shifts: false,
+        rust: |slots, log_d, _| rust::transpose::<F>(slots, log_d),
+        ours: |slots, log_d, _, p, v| ours::transpose_matrices(slots, log_d, p, v),
+    },
+    Rule { name: "rotate_rows", shifts: true, rust: rust::rotate_rows::<F>, ours: ours::rotate_rows },
+    Rule { name: "rotate_cols", shifts: true, rust: rust::rotate_cols::<F>, ours: ours::rotate_cols },
+    Rule { name: "rows_upper", shifts: true, rust: rust::rows_upper::<F>, ours: ours::rows_upper },
+    Rule { name: "rows_lower", shifts: true, rust: rust::rows_lower::<F>, ours: ours::rows_lower },
+    Rule { name: "cols_left", shifts: true, rust: rust::cols_left::<F>, ours: ours::cols_left },
+    Rule { name: "cols_right", shifts: true, rust: rust::cols_right::<F>, ours: ours::cols_right },
+    Rule { name: "rows_left", shifts: true, rust: rust::rows_left::<F>, ours: ours::rows_left },
+    Rule { name: "rows_right", shifts: true, rust: rust::rows_right::<F>, ours: ours::rows_right },
 ];
 
-const PRODUCTS: [&str; 4] = ["right_mul", "left_mul", "right_jkls", "left_jkls"];
+/// The products by public matrices: their names, and ours.
+type Product = (&'static str, fn(usize, usize, usize, &[u64], &mut [u32], &mut [u64]) -> Numbers);
+
+const PRODUCTS: [Product; 4] = [
+    ("right_mul", ours::right_mul),
+    ("left_mul", ours::left_mul),
+    ("right_jkls", ours::right_jkls),
+    ("left_jkls", ours::left_jkls),
+];
 
 fn square(log_d: usize) -> usize {
     1 << (2 * log_d)
@@ -46,8 +78,8 @@ fn tiled(slots: usize, log_d: usize, count: usize) -> Result<(), u32> {
 
 fn right_rule(rule: usize, slots: usize, log_d: usize, k: usize) -> Result<Words, u32> {
     tiled(slots, log_d, 1)?;
-    let (_, shifts, map) = RULES[rule];
-    if shifts && k > 1 << log_d { Err(6) } else { Ok(map(slots, log_d, k)) }
+    let Rule { shifts, rust, .. } = RULES[rule];
+    if shifts && k > 1 << log_d { Err(6) } else { Ok(rust(slots, log_d, k)) }
 }
 
 fn product(p: usize, slots: usize, log_d: usize, count: usize, b: &[u64]) -> Words {
@@ -120,15 +152,16 @@ fn check_shrunk(
 }
 
 fn check_rule(cases: &mut Cases, rule: usize, slots: usize, log_d: usize, k: usize) {
-    let name = format!("{} {slots} {log_d} {k}", RULES[rule].0);
-    let call = |p: &mut [u32], v: &mut [u64]| ours::rule(RULES[rule].0, slots, log_d, k, p, v);
+    let name = format!("{} {slots} {log_d} {k}", RULES[rule].name);
+    let call = |p: &mut [u32], v: &mut [u64]| (RULES[rule].ours)(slots, log_d, k, p, v);
     let period = if log_d > 8 { 0 } else { square(log_d) };
     check_shrunk(cases, &name, period, right_rule(rule, slots, log_d, k), call);
 }
 
 fn check_product(cases: &mut Cases, p: usize, slots: usize, log_d: usize, count: usize, b: &[u64]) {
-    let name = format!("{} {slots} {log_d} {count}", PRODUCTS[p]);
-    let call = |pairs: &mut [u32], v: &mut [u64]| ours::product(PRODUCTS[p], slots, log_d, count, b, pairs, v);
+    let (name, ours) = PRODUCTS[p];
+    let call = |pairs: &mut [u32], v: &mut [u64]| ours(slots, log_d, count, b, pairs, v);
+    let name = format!("{name} {slots} {log_d} {count}");
     check_map(cases, &name, right_product(p, slots, log_d, count, b), call);
 }
 
@@ -146,14 +179,19 @@ fn right_rows_rep(slots: usize, log_d: usize, k: usize) -> Result<Words, u32> {
     if k < 1 || k >= 1 << log_d { Err(6) } else { Ok(rust::rotate_rows_rep(slots, log_d, k)) }
 }
 
-/// The maps of slots and log_d alone that do not shrink.
-const PLAIN: [(&str, fn(usize, usize) -> Words); 3] =
-    [("tau_rep", rust::tau_rep::<F>), ("first_row", rust::first_row::<F>), ("first_col", rust::first_col::<F>)];
+/// A map of slots and log_d alone that does not shrink: its name, the Rust's, ours.
+type Plain = (&'static str, fn(usize, usize) -> Words, fn(usize, usize, &mut [u32], &mut [u64]) -> Numbers);
+
+const PLAIN: [Plain; 3] = [
+    ("tau_rep", rust::tau_rep::<F>, ours::tau_rep),
+    ("first_row", rust::first_row::<F>, ours::first_row),
+    ("first_col", rust::first_col::<F>, ours::first_col),
+];
 
 fn check_plain(cases: &mut Cases, slots: usize, log_d: usize) {
-    for (name, map) in PLAIN {
-        let right = tiled(slots, log_d, 1).map(|()| map(slots, log_d));
-        let call = |p: &mut [u32], v: &mut [u64]| ours::tiled(name, slots, log_d, p, v);
+    for (name, rust, ours) in PLAIN {
+        let right = tiled(slots, log_d, 1).map(|()| rust(slots, log_d));
+        let call = |p: &mut [u32], v: &mut [u64]| ours(slots, log_d, p, v);
         check_map(cases, &format!("{name} {slots} {log_d}"), right, call);
     }
 }
@@ -189,7 +227,8 @@ fn check_values(cases: &mut Cases, log_d: usize, count: usize, b: &[u64]) {
         for room in [n, n.saturating_sub(1), n + 3] {
             let held: Vec<u64> = (0..room as u64).map(|w| !w).collect();
             let mut lent = Lent::new(&held);
-            let answer = ours::skewed_values(rows, log_d, count, b, lent.part());
+            let ours = if rows { ours::tau_values } else { ours::sigma_values };
+            let answer = ours(log_d, count, b, lent.part());
             let right = match &values {
                 Ok(v) if v.len() <= room => (Numbers::is(v.len()), [&v[..], &held[v.len()..]].concat()),
                 Ok(_) => (Numbers::refused(12), held),
@@ -235,7 +274,7 @@ fn right_per_matrix(slots: usize, log_d: usize, terms: &Terms) -> Result<Words, 
 }
 
 fn check_per_matrix(cases: &mut Cases, slots: usize, log_d: usize, terms: &Terms) {
-    let call = |p: &mut [u32], v: &mut [u64]| ours::per_matrix_map(slots, log_d, terms, p, v);
+    let call = |p: &mut [u32], v: &mut [u64]| per_matrix_map(slots, log_d, terms, p, v);
     let period = if log_d > 8 { 0 } else { square(log_d) };
     let name = format!("per_matrix_map {slots} {log_d} {terms:?}");
     check_shrunk(cases, &name, period, right_per_matrix(slots, log_d, terms), call);
@@ -250,7 +289,7 @@ fn check_closure(cases: &mut Cases, slots: usize, log_d: usize, terms: &Terms) {
         mine.map(|t| (terms.js[t] as usize / d, terms.js[t] as usize % d, Wrapping(terms.ws[t]))).collect::<Vec<_>>()
     };
     let right = rust::per_matrix_map(slots, log_d, of);
-    let call = |p: &mut [u32], v: &mut [u64]| ours::per_matrix_map(slots, log_d, terms, p, v);
+    let call = |p: &mut [u32], v: &mut [u64]| per_matrix_map(slots, log_d, terms, p, v);
     check_shrunk(cases, &format!("per_matrix_map {slots} {log_d} {terms:?}"), square(log_d), Ok(right), call);
 }
 
@@ -282,7 +321,7 @@ pub fn compare(tally: &mut Tally) {
         for log_d in 0..=3 {
             for blocks in [1, 2, 3, 5, 6, 8] {
                 let slots = square(log_d) * blocks;
-                for (rule, (_, shifts, _)) in RULES.iter().enumerate() {
+                for (rule, Rule { shifts, .. }) in RULES.iter().enumerate() {
                     for k in 0..=if *shifts { (1 << log_d) + 1 } else { 0 } {
                         check_rule(cases, rule, slots, log_d, k);
                     }
@@ -313,7 +352,7 @@ pub fn compare(tally: &mut Tally) {
     });
     tally.run("matrix maps and products of 65,536 slots, log_d to 8", |cases| {
         for log_d in 4..=8 {
-            for (rule, (_, shifts, _)) in RULES.iter().enumerate() {
+            for (rule, Rule { shifts, .. }) in RULES.iter().enumerate() {
                 let k = if *shifts { random.below((1 << log_d) + 1) } else { 0 };
                 check_rule(cases, rule, MOST, log_d, k);
             }
@@ -366,7 +405,7 @@ pub fn compare(tally: &mut Tally) {
             for log_d in [0, 1, 2, 8, 9, 31, 32, 63, 64, usize::MAX] {
                 for k in [0, 1, 2, 3, 5, 257, usize::MAX] {
                     for rule in 0..RULES.len() {
-                        if slots < MOST || log_d < 2 || log_d > 8 || k > 256 {
+                        if slots < MOST || !(2..=8).contains(&log_d) || k > 256 {
                             check_rule(cases, rule, slots, log_d, k);
                         }
                     }
@@ -395,24 +434,24 @@ pub fn compare(tally: &mut Tally) {
 
 pub fn bench(bench: &mut Bench) {
     let mut random = Random::new(17);
-    for rule in 0..3 {
-        let (name, _, map) = RULES[rule];
+    for Rule { name, rust, ours, .. } in &RULES[..3] {
         let (mut p, mut v) = (vec![0; 2 * 511], vec![0; 511 * MOST]);
         bench.pair(
             &format!("{name} of 256 by 256, 65,536 slots"),
             Some(4.0),
-            || ours::rule(name, keep(MOST), 8, 0, &mut p, &mut v),
-            || map(keep(MOST), 8, 0),
+            || ours(keep(MOST), 8, 0, &mut p, &mut v),
+            || rust(keep(MOST), 8, 0),
         );
     }
     for (p, log_d, count) in [(2, 6, 16), (3, 6, 16), (0, 8, 1)] {
+        let (name, ours) = PRODUCTS[p];
         let d = 1 << log_d;
         let b = random.words(count * d * d);
         let (mut pairs, mut v) = (vec![0; 2 * (2 * d - 1)], vec![0; (2 * d - 1) * count * d * d]);
         bench.pair(
-            &format!("{} of {d} by {d}, {count} matrices", PRODUCTS[p]),
+            &format!("{name} of {d} by {d}, {count} matrices"),
             Some(2.0),
-            || ours::product(PRODUCTS[p], MOST, log_d, count, keep(&b), &mut pairs, &mut v),
+            || ours(MOST, log_d, count, keep(&b), &mut pairs, &mut v),
             || product(p, MOST, log_d, count, keep(&b)),
         );
     }
@@ -442,15 +481,15 @@ pub fn sample(sample: &mut Sample) {
     for log_d in 0..=2 {
         for blocks in [1, 2, 3] {
             let slots = square(log_d) * blocks;
-            for (rule, (_, shifts, _)) in RULES.iter().enumerate() {
+            for (rule, Rule { shifts, .. }) in RULES.iter().enumerate() {
                 for k in if *shifts { vec![0, 1, (1 << log_d), (1 << log_d) + 1] } else { vec![0] } {
                     let words = [rule, slots, log_d, k].map(|w| w as u64);
                     sample.call(32, &words, &told(right_rule(rule, slots, log_d, k), Some(square(log_d)), full));
                 }
             }
-            for (n, (_, map)) in PLAIN.iter().enumerate() {
+            for (n, (_, rust, _)) in PLAIN.iter().enumerate() {
                 let words = [n, slots, log_d].map(|w| w as u64);
-                sample.call(33, &words, &told(Ok(map(slots, log_d)), None, full));
+                sample.call(33, &words, &told(Ok(rust(slots, log_d)), None, full));
             }
             for k in 0..=(1 << log_d) {
                 let words = [slots, log_d, k].map(|w| w as u64);

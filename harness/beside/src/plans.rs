@@ -4,10 +4,12 @@ use poulpy_core::layouts::{
     BsgsRotations, LinearTransformationLayout, LinearTransformationPlan, LinearTransformationStrategy as Strategy,
     call_linear_transform_index, call_linear_transformation_plan, optimal_bsgs_giant_step,
 };
+use sibukyaran::lent::{self as ours, Numbers, PlanNumbers};
 
 use crate::bench::{Bench, keep};
+use crate::calls::Expected;
 use crate::diagonals::in_front;
-use crate::ours::{self, Lent, Numbers, PlanNumbers};
+use crate::guards::Lent;
 use crate::random::Random;
 use crate::ring::{MOST, outside, word};
 use crate::sample::Sample;
@@ -158,13 +160,15 @@ fn check(cases: &mut Cases, indexes: &[i64], slots: usize, how: How) {
     let layout = |strategy| LinearTransformationLayout { indexes: indexes.to_vec(), slots, strategy };
     let plan = strategy.map(|strategy| layout(strategy).index());
     let plan = plan.as_ref().map_err(|&refusal| refusal);
-    check_plan(cases, || call("index"), plan, |out| ours::index(indexes, slots, how, out));
+    let (kind, width) = how;
+    let index = |out: &mut [u32]| ours::linear_transform_index(indexes, slots, kind, width, out);
+    check_plan(cases, || call("index"), plan, index);
     let steps = strategy.map(|strategy| narrow(&layout(strategy).baby_steps()));
-    check_listed(cases, || call("baby_steps"), steps, |out| ours::baby_steps(indexes, slots, how, out));
-    let keys = plan.map(plan_keys);
-    check_listed(cases, || call("key rotations"), keys, |out| ours::plan_keys(indexes, slots, how, out));
+    check_listed(cases, || call("baby_steps"), steps, |out| ours::baby_steps(indexes, slots, kind, width, out));
+    let keys = |out: &mut [u32]| ours::plan_key_rotations(indexes, slots, kind, width, out);
+    check_listed(cases, || call("key rotations"), plan.map(plan_keys), keys);
     let right = plan.map_or_else(Numbers::refused, |plan| Numbers::is(plan_switches(plan)));
-    cases.same(|| call("key switches"), ours::plan_switches(indexes, slots, how), right);
+    cases.same(|| call("key switches"), ours::plan_key_switches(indexes, slots, kind, width), right);
 }
 
 /// The calls that take a width and no strategy.
@@ -172,7 +176,7 @@ fn check_width(cases: &mut Cases, indexes: &[i64], slots: usize, width: usize) {
     let call = |name: &str| format!("{name} {indexes:?} {slots} {width}");
     let plan = accepted(slots, (0, width)).map(|_| call_linear_transformation_plan(indexes, slots, width));
     let plan = plan.as_ref().map_err(|&refusal| refusal);
-    check_plan(cases, || call("plan"), plan, |out| ours::plan(indexes, slots, width, out));
+    check_plan(cases, || call("plan"), plan, |out| ours::linear_transformation_plan(indexes, slots, width, out));
     let right = right_baby_step(indexes, slots, width);
     cases.same(|| call("baby step"), ours::baby_step(indexes, slots, width), right);
 }
@@ -262,7 +266,11 @@ pub fn compare(tally: &mut Tally) {
     });
     tally.run("best width: all subsets of up to 12 slots, random lists, slots out of range", |cases| {
         let mut same = |list: &[i64], slots: usize| {
-            cases.same(|| format!("{list:?} {slots}"), ours::best_width(list, slots), right_best(list, slots));
+            cases.same(
+                || format!("{list:?} {slots}"),
+                ours::optimal_bsgs_giant_step(list, slots),
+                right_best(list, slots),
+            );
         };
         for slots in 1..=12 {
             for list in subsets(slots) {
@@ -349,13 +357,14 @@ pub fn bench(bench: &mut Bench) {
     let spread: Vec<i64> = (0..511).map(|_| random.below(MOST) as i64).collect();
     let all: Vec<i64> = (0..MOST as i64).collect();
     for (name, list) in [("511 of a sigma", &sigma), ("511 spread out", &spread), ("65,536", &all)] {
-        for (kind, how) in [("Bsgs(32)", (0, 32)), ("powers of two (32)", (1, 32)), ("Direct", (2, 0))] {
+        for (by, how) in [("Bsgs(32)", (0, 32)), ("powers of two (32)", (1, 32)), ("Direct", (2, 0))] {
             let strategy = accepted(MOST, how).unwrap();
+            let (kind, width) = how;
             let mut plan = vec![0; 4 * MOST + 1];
             bench.pair(
-                &format!("plan of {name} diagonals, {kind}"),
+                &format!("plan of {name} diagonals, {by}"),
                 Some(2.0),
-                || ours::index(keep(list), MOST, how, &mut plan),
+                || ours::linear_transform_index(keep(list), MOST, kind, width, &mut plan),
                 || call_linear_transform_index(keep(list), MOST, strategy),
             );
         }
@@ -364,7 +373,7 @@ pub fn bench(bench: &mut Bench) {
     bench.pair(
         "best width of 2,048 diagonals with gap 32",
         Some(3.0),
-        || ours::best_width(keep(&list), MOST),
+        || ours::optimal_bsgs_giant_step(keep(&list), MOST),
         || optimal_bsgs_giant_step(keep(&list).iter().copied(), MOST),
     );
 }

@@ -5,9 +5,11 @@ use std::num::Wrapping;
 use poulpy_core::layouts::{
     DiagonalArithmetic, call_gcd_i64, call_min_period, call_normalize_linear_transform_diagonal, period_lcm,
 };
+use sibukyaran::lent::{self as ours, Numbers};
 
 use crate::bench::{Bench, keep};
-use crate::ours::{self, Lent, Numbers};
+use crate::calls::Expected;
+use crate::guards::Lent;
 use crate::random::{Random, divisors};
 use crate::sample::Sample;
 use crate::tally::Tally;

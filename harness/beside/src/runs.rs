@@ -1,14 +1,25 @@
 //! The plain run beside `evaluate` of document 001.
 
 use poulpy_core::layouts::{Evaluate, LinearTransformationStrategy as Strategy};
+use sibukyaran::lent::{self as ours, BSGS, BSGS_POWERS_OF_TWO, DIRECT, Map};
 
 use crate::bench::{Bench, keep};
 use crate::diagonals::{Stored, any_map, every_map, map_words, right_map_refusal, rust_map, wide_map, wrapped};
-use crate::ours::{self, Lent, Map};
+use crate::guards::Lent;
 use crate::random::Random;
 use crate::ring::outside;
 use crate::sample::Sample;
 use crate::tally::Tally;
+
+/// Ours by a strategy of the Rust's.
+fn evaluate(map: Map, input: &[u64], strategy: Strategy, out: &mut [u64]) -> u32 {
+    let (kind, giant_step) = match strategy {
+        Strategy::Bsgs { giant_step } => (BSGS, giant_step),
+        Strategy::BsgsPowersOfTwo { giant_step } => (BSGS_POWERS_OF_TWO, giant_step),
+        Strategy::Direct => (DIRECT, 0),
+    };
+    ours::evaluate(map, input, kind, giant_step, out)
+}
 
 fn width(strategy: Strategy) -> Option<usize> {
     match strategy {
@@ -53,7 +64,7 @@ pub fn compare(tally: &mut Tally) {
                         {
                             let held = vec![7; slots + 1];
                             let mut lent = Lent::new(&held);
-                            let refusal = ours::evaluate(map.lent(), &input, strategy, lent.part());
+                            let refusal = evaluate(map.lent(), &input, strategy, lent.part());
                             let (right, words) = right_evaluate(map.lent(), &input, strategy, &held);
                             let call = || format!("{map:?} {input:?} {strategy:?}");
                             cases.same(call, (refusal, lent.back()), (right, (words, true)));
@@ -73,7 +84,7 @@ pub fn compare(tally: &mut Tally) {
                 let room = slots + random.below(4);
                 let held = random.words(room);
                 let mut lent = Lent::new(&held);
-                let refusal = ours::evaluate(stored.lent(), &input, strategy, lent.part());
+                let refusal = evaluate(stored.lent(), &input, strategy, lent.part());
                 let (right, words) = right_evaluate(stored.lent(), &input, strategy, &held);
                 cases.same(|| format!("{stored:?} {strategy:?}"), (refusal, lent.back()), (right, (words, true)));
             }
@@ -91,7 +102,7 @@ pub fn compare(tally: &mut Tally) {
                     // No strategy has this kind, so it has no width.
                     let (input, held) = (random.words(slots), random.words(slots));
                     let mut lent = Lent::new(&held);
-                    let refusal = ours::evaluate_kind(map.lent(), &input, 3, giant_step, lent.part());
+                    let refusal = ours::evaluate(map.lent(), &input, 3, giant_step, lent.part());
                     let right = [right_map_refusal(map.lent()), 3].into_iter().find(|&e| e != 0).unwrap();
                     cases.same(
                         || format!("{map:?} kind 3 {giant_step}"),
@@ -104,7 +115,7 @@ pub fn compare(tally: &mut Tally) {
                         for (n, m) in [(slots, slots), (slots - 1, slots), (slots + 1, slots), (slots, slots - 1)] {
                             let (input, held) = (random.words(n), random.words(m));
                             let mut lent = Lent::new(&held);
-                            let refusal = ours::evaluate(map.lent(), &input, strategy, lent.part());
+                            let refusal = evaluate(map.lent(), &input, strategy, lent.part());
                             let (right, words) = right_evaluate(map.lent(), &input, strategy, &held);
                             let call = || format!("{map:?} {strategy:?} {n} {m}");
                             cases.same(call, (refusal, lent.back()), (right, (words, true)));
@@ -184,13 +195,13 @@ pub fn bench(bench: &mut Bench) {
         bench.pair(
             &format!("evaluate, 511 diagonals of {length}, beside Direct"),
             Some(3.0),
-            || ours::evaluate(keep(stored.lent()), &input, Strategy::Direct, &mut x),
+            || evaluate(keep(stored.lent()), &input, Strategy::Direct, &mut x),
             || keep(&rust).evaluate(&rust_input, Strategy::Direct),
         );
         bench.pair(
             &format!("evaluate, 511 diagonals of {length}, beside a plain loop"),
             Some(1.0 / 1.2),
-            || ours::evaluate(keep(stored.lent()), &input, Strategy::Direct, &mut x),
+            || evaluate(keep(stored.lent()), &input, Strategy::Direct, &mut x),
             || plain(keep(stored.lent()), &input, &mut y),
         );
         assert_eq!(x, y, "the plain loop is right");

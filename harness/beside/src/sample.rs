@@ -6,7 +6,8 @@ use std::fs;
 use std::path::PathBuf;
 use std::process::ExitCode;
 
-use crate::ours::PairRecord;
+use sibukyaran::lent::PairRecord;
+
 use crate::tally::Tally;
 use crate::{diagonals, files, keyed, keys, linear_transformation, matrices, plans, ring, runs};
 
