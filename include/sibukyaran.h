@@ -118,7 +118,8 @@ struct sibukyaran_numbers sibukyaran_get_into(size_t slots, size_t count, const 
 /* Replaces or inserts the diagonal at an index; the value is the new number of pairs. 4: a length that is 0 or does not
  * divide slots. */
 struct sibukyaran_numbers sibukyaran_set(size_t slots, size_t count, uint32_t *pairs, size_t pairs_len, uint64_t *values,
-                                         size_t values_len, int64_t index, const uint64_t *new_values, size_t new_len);
+                                         size_t values_len, int64_t index, const uint64_t *new_values,
+                                         size_t new_values_len);
 
 /* The map whose output i + q*period sums w * input[(j + q*period) mod slots] over the terms (i, j, w). 4: the period is
  * 0 or does not divide slots. 7: the lists differ in length. 8: a term has i >= period or j >= slots. */
