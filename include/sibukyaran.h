@@ -14,6 +14,12 @@
 #include <stddef.h>
 #include <stdint.h>
 
+/* The version of this interface and of the Rust crate. */
+#define SIBUKYARAN_VERSION_MAJOR 0
+#define SIBUKYARAN_VERSION_MINOR 1
+#define SIBUKYARAN_VERSION_PATCH 0
+#define SIBUKYARAN_VERSION "0.1.0"
+
 #ifdef __cplusplus
 extern "C" {
 #endif
