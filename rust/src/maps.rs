@@ -158,14 +158,27 @@ pub fn per_matrix_map<I: IntoIterator<Item = (usize, usize, u64)>>(
     log_d: usize,
     terms: impl Fn(usize, usize) -> I,
 ) -> Result<Diagonals, Refusal> {
-    let d = side(log_d).filter(|_| slots <= MOST).unwrap_or(0);
-    let of =
-        |i: usize| terms(i / d, i % d).into_iter().map(move |(r, c, w)| (i, r.saturating_mul(d).saturating_add(c), w));
-    let terms = Terms::of((0..d * d).flat_map(of));
+    let d = side(log_d).unwrap_or(0);
+    let of = |i: usize| {
+        let at = move |(r, c, w): (usize, usize, u64)| (i, r.saturating_mul(d).saturating_add(c), w);
+        terms(i / d, i % d).into_iter().map(at)
+    };
+    per_matrix_terms(slots, log_d, (0..d * d).flat_map(of))
+}
+
+/// The same of a list of terms (i, j, w): output i of a matrix slot, below d·d, sums w times slot j, counted from the
+/// matrix slot's first. Refused with 1, 5, 8.
+pub fn per_matrix_terms(
+    slots: usize,
+    log_d: usize,
+    terms: impl IntoIterator<Item = (usize, usize, u64)>,
+) -> Result<Diagonals, Refusal> {
+    let terms = Terms::of(terms);
+    let period = side(log_d).map_or(0, |d| d * d);
     let count = terms.diagonals(slots);
     let call = |p: &mut [u32], v: &mut [u64]| lent::per_matrix_map(slots, log_d, &terms.is, &terms.js, &terms.ws, p, v);
-    Diagonals::built(slots, count, count * d * d, call).map_err(|number| match number {
-        8 => terms.refused(d * d, slots),
+    Diagonals::built(slots, count, count * period, call).map_err(|number| match number {
+        8 => terms.refused(period, slots),
         number => refused(number, slots, log_d, 1, None),
     })
 }
