@@ -1,4 +1,5 @@
 # Sourced by the commands: the kit that is pinned, the Rust that ours is held to, and the program that runs both.
+. tools/library.sh
 
 # The folder of poulpy's files, at their paths in its repository.
 POULPY_SRC=$(realpath -m "${POULPY_SRC:-../shared/docs/src}")
@@ -23,5 +24,5 @@ reference_unchanged() {
 
 # The proved library, and over it the program harness/target/release/beside.
 build_beside() {
-    rt staticlib sibukyaran >/dev/null && cargo build --manifest-path harness/Cargo.toml --offline --locked --release --quiet
+    build_library && cargo build --manifest-path harness/Cargo.toml --offline --locked --release --quiet
 }
