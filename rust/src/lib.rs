@@ -42,3 +42,8 @@ pub use plans::{
 };
 pub use refusal::{FileFault, MOST, Refusal};
 pub use rotations::{BabyPass, BsgsRotations, GiantTree, GiantTreeLevel};
+
+/// The example of the repository's README is tested as one of this crate's.
+#[cfg(doctest)]
+#[doc = include_str!("../../README.md")]
+struct Readme;

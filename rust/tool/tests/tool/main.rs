@@ -3,6 +3,7 @@
 mod bench;
 mod maps;
 mod plans;
+mod readme;
 mod runs;
 mod usage;
 mod week;
