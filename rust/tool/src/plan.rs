@@ -154,7 +154,7 @@ fn told(layout: &LinearTransformationLayout, plan: &LinearTransformationPlan) ->
 
 fn picture(layout: &LinearTransformationLayout, plan: LinearTransformationPlan) -> Result<PlanPicture, Failure> {
     Ok(PlanPicture {
-        title: format!("{} slots, {}", layout.slots, strategy_text(layout.strategy)),
+        title: format!("Plan: {} slots, {}", layout.slots, strategy_text(layout.strategy)),
         slots: layout.slots,
         passes: plan.rotations.baby_passes(plan.baby_steps.iter().copied())?,
         tree: plan.rotations.giant_tree(plan.giant_steps.iter().copied())?,
@@ -271,7 +271,7 @@ fn width(args: &Args) -> Result<(), Failure> {
     let diagonals = residues(&indexes, slots).len();
     let head = format!("{slots} slots, {diagonals} diagonals: best width {best}, of {}\n", costs.len());
     let text = if args.has("--json") { rows_json(&rows) } else { head + &rows_text(&rows) };
-    let picture = CostPicture { title: format!("{slots} slots"), slots, diagonals, costs, best };
+    let picture = CostPicture { title: format!("Cost by width: {slots} slots"), slots, diagonals, costs, best };
     let text = if args.has("--picture") { format!("{text}\n{}", picture.text()) } else { text };
     show(args, text, || picture.svg())
 }
