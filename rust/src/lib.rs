@@ -28,6 +28,7 @@
 mod diagonals;
 mod file;
 mod keyed;
+pub mod layouts;
 pub mod lent;
 pub mod maps;
 mod plans;
