@@ -8,6 +8,7 @@
 mod bench;
 mod calls;
 mod diagonals;
+mod drop_in;
 mod files;
 mod guards;
 mod keyed;
@@ -39,6 +40,7 @@ fn compare() -> ExitCode {
         matrices::compare(&mut tally);
         runs::compare(&mut tally);
         keyed::compare(&mut tally);
+        drop_in::compare(&mut tally);
         sample::compare(&mut tally);
         tally.close()
     };
