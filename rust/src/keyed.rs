@@ -36,7 +36,7 @@ use crate::rotations::GiantTreeLevel;
 pub struct KeyedRun {
     slots: usize,
     numbers: KeyedNumbers,
-    plan: Vec<u32>,
+    plan: PlanWords,
     levels: Vec<GiantTreeLevel>,
     cache: Vec<u64>,
     nodes: Vec<u64>,
@@ -45,27 +45,19 @@ pub struct KeyedRun {
 }
 
 impl KeyedRun {
-    fn parts(&self) -> (usize, usize) {
-        (self.numbers.babies as usize, self.numbers.giants as usize)
-    }
-
     /// The plan's babies, rising, with 0.
     pub fn babies(&self) -> &[u32] {
-        &self.plan[..self.parts().0]
+        self.plan.babies()
     }
 
     /// The plan's giants, rising.
     pub fn giants(&self) -> &[u32] {
-        let (babies, giants) = self.parts();
-        &self.plan[babies..babies + giants]
+        self.plan.giants()
     }
 
     /// The babies of giant number g, in rising order.
-    pub fn index(&self, g: usize) -> &[u32] {
-        let (babies, giants) = self.parts();
-        let pairs = &self.plan[babies + giants..];
-        let (start, length) = (pairs[2 * g] as usize, pairs[2 * g + 1] as usize);
-        &pairs[2 * giants + start..][..length]
+    pub fn babies_of(&self, g: usize) -> &[u32] {
+        self.plan.babies_of(g)
     }
 
     /// The number of diagonals.
@@ -107,8 +99,8 @@ impl KeyedRun {
 
     /// The vector in the place of giant number g, once all babies are made.
     pub fn node(&self, g: usize) -> Option<&[u64]> {
-        let (babies, giants) = self.parts();
-        (g < giants && self.switches() + 1 >= babies).then(|| &self.nodes[g * self.slots..][..self.slots])
+        let made = g < self.giants().len() && self.switches() + 1 >= self.babies().len();
+        made.then(|| &self.nodes[g * self.slots..][..self.slots])
     }
 
     /// The product, once the run is finished.
@@ -122,10 +114,9 @@ impl KeyedRun {
     }
 }
 
-/// The memory that a run is lent.
+/// The memory that a run is lent, but for the plan's.
 #[derive(Default)]
 struct Buffers {
-    plan: Vec<u32>,
     records: Vec<PairRecord>,
     cache: Vec<u64>,
     nodes: Vec<u64>,
@@ -143,9 +134,9 @@ struct Job<'a> {
 }
 
 impl Job<'_> {
-    fn run(&self, lent: &mut Buffers) -> KeyedNumbers {
+    fn run(&self, plan: &mut [u32], lent: &mut Buffers) -> KeyedNumbers {
         let (kind, giant_step) = self.layout.strategy.numbers();
-        let Buffers { plan, records, cache, nodes, log, out } = lent;
+        let Buffers { records, cache, nodes, log, out } = lent;
         let map = self.map.lent();
         lent::evaluate_keyed(
             map, self.input, kind, giant_step, self.held, self.n, plan, records, cache, nodes, log, out,
@@ -179,11 +170,11 @@ impl Job<'_> {
 
     fn finish(self) -> Result<KeyedRun, Refusal> {
         // Without room: a refusal before that of the room, so that no run is made room for in vain.
-        let refusal = self.run(&mut Buffers::default()).refusal;
+        let refusal = self.run(&mut [], &mut Buffers::default()).refusal;
         if refusal != 12 {
             return Err(self.refused(refusal));
         }
-        let plan = self.layout.words().unwrap_or_else(|number| unexpected(number));
+        let mut plan = self.layout.words().unwrap_or_else(|number| unexpected(number));
         let levels = self.levels(&plan)?;
         let slots = self.map.slots();
         let mut lent = Buffers {
@@ -192,13 +183,12 @@ impl Job<'_> {
             nodes: vec![0; plan.giants * slots],
             log: vec![0; self.layout.key_switches()?],
             out: vec![0; slots],
-            plan: plan.words,
         };
-        let numbers = self.run(&mut lent);
+        let numbers = self.run(&mut plan.words, &mut lent);
         if numbers.refusal != 0 {
             unexpected(numbers.refusal);
         }
-        let Buffers { plan, cache, nodes, log, out, .. } = lent;
+        let Buffers { cache, nodes, log, out, .. } = lent;
         Ok(KeyedRun { slots, numbers, plan, levels, cache, nodes, log, out })
     }
 }

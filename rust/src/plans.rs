@@ -80,6 +80,7 @@ pub(crate) fn signed(words: &[u32]) -> Vec<i64> {
 }
 
 /// The words of a plan, and where its parts stand in them.
+#[derive(Clone, Debug)]
 pub(crate) struct PlanWords {
     pub words: Vec<u32>,
     pub babies: usize,
@@ -110,7 +111,7 @@ impl PlanWords {
     }
 
     /// The babies of giant number g.
-    pub fn index(&self, g: usize) -> &[u32] {
+    pub fn babies_of(&self, g: usize) -> &[u32] {
         let pairs = self.babies + self.giants;
         let (start, length) = (self.words[pairs + 2 * g] as usize, self.words[pairs + 2 * g + 1] as usize);
         &self.words[pairs + 2 * self.giants + start..][..length]
@@ -120,7 +121,7 @@ impl PlanWords {
         LinearTransformationPlan {
             baby_steps: signed(self.babies()),
             giant_steps: signed(self.giants()),
-            index: (0..self.giants).map(|g| signed(self.index(g))).collect(),
+            index: (0..self.giants).map(|g| signed(self.babies_of(g))).collect(),
             rotations,
         }
     }
@@ -203,7 +204,7 @@ impl LinearTransformationLayout {
     /// Refused with 1, 3.
     pub fn cost(&self) -> Result<usize, Refusal> {
         let plan = self.words().map_err(|number| self.refused(number))?;
-        let zero_is_met = (0..plan.giants).any(|g| plan.index(g).first() == Some(&0));
+        let zero_is_met = (0..plan.giants).any(|g| plan.babies_of(g).first() == Some(&0));
         // The plan has the baby 0 in any case.
         let babies = plan.babies - usize::from(!zero_is_met);
         Ok(2 * babies.max(plan.giants))

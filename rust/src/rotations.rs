@@ -37,6 +37,9 @@ pub type BabyPass = (i64, Vec<(i64, i64)>);
 /// The leaf of each giant, and the levels upward.
 pub type GiantTree = (Vec<usize>, Vec<GiantTreeLevel>);
 
+/// A call that writes a list for one of babies or giants: the rotations' numbers, the list, and where.
+type Listing = fn(u32, usize, usize, usize, &[i64], &mut [u32]) -> Numbers;
+
 /// A step or slots as the library takes it: one that is negative is refused as 0 is.
 fn size(n: i64) -> usize {
     usize::try_from(n).unwrap_or(0)
@@ -83,12 +86,7 @@ impl BsgsRotations {
     }
 
     /// The list that a call writes.
-    fn listed(
-        self,
-        list: &[i64],
-        room: usize,
-        call: fn(u32, usize, usize, usize, &[i64], &mut [u32]) -> Numbers,
-    ) -> Result<Vec<i64>, Refusal> {
+    fn listed(self, list: &[i64], room: usize, call: Listing) -> Result<Vec<i64>, Refusal> {
         let (kind, baby_step, giant_step, slots) = self.numbers();
         let mut out = vec![0; room];
         match call(kind, baby_step, giant_step, slots, list, &mut out) {

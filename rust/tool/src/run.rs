@@ -79,7 +79,7 @@ fn state(run: &KeyedRun) -> Json {
     Json::Object(vec![
         ("babies", Json::numbers(run.babies())),
         ("giants", Json::numbers(run.giants())),
-        ("index", Json::List((0..giants).map(|g| Json::numbers(run.index(g))).collect())),
+        ("index", Json::List((0..giants).map(|g| Json::numbers(run.babies_of(g))).collect())),
         ("levels", Json::List(run.levels().iter().map(level).collect())),
         ("switches", Json::number(run.switches() as u64)),
         ("finished", Json::Truth(run.is_finished())),
