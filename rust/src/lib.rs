@@ -29,6 +29,7 @@ mod diagonals;
 mod file;
 mod keyed;
 pub mod layouts;
+#[allow(unsafe_code)] // here, and nowhere else
 pub mod lent;
 pub mod maps;
 mod plans;
