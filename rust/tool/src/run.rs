@@ -1,5 +1,6 @@
 //! `run`: the keyed run of a map on an input, with the keys that are held.
 
+use std::hint::black_box;
 use std::time::{Duration, Instant};
 
 use sibukyaran::{Diagonals, KeyedRun, LinearTransformationStrategy as Strategy, Refusal, rotate_slots_into};
@@ -53,7 +54,11 @@ fn expected(map: &Diagonals, input: &[u64], strategy: Strategy) -> Result<Durati
 fn has_memory(map: &Diagonals, strategy: Strategy) -> Result<(), Failure> {
     let plan = map.layout(strategy).index()?;
     let words = (plan.baby_steps.len() - 1 + plan.giant_steps.len()) * map.slots();
-    Vec::<u64>::new().try_reserve_exact(words).map_err(|_| {
+    let mut memory: Vec<u64> = Vec::new();
+    let had = memory.try_reserve_exact(words);
+    // Or the compiler may leave out what nobody uses.
+    black_box(&memory);
+    had.map_err(|_| {
         let mebibytes = words >> 17;
         Failure::Input(format!(
             "the run takes {mebibytes} MiB of memory, which cannot be had: another width takes less"

@@ -128,15 +128,12 @@ fn a_run_without_the_memory_is_not_begun() {
     bench.write("all.map", &file);
     bench.write("in.vec", vec![0; 8 * 65_536]);
     bench.write("keys.txt", (1..65_536).map(|k| format!("{k}\n")).collect::<String>());
-    let told = bench.run("run all.map in.vec --strategy direct --keys keys.txt -n 0 -o held.vec");
-    // Where 32 GiB can be promised, the run stops before it has written them all.
+    let told = bench.run("run all.map in.vec --strategy bsgs:65536 --keys keys.txt -n 0 -o held.vec");
+    // Where 32 GiB can be promised, the run stops before it has written a word of them.
     if told.status != Some(0) {
         assert_eq!(told.status, Some(1), "{}", told.err);
-        assert!(
-            told.err.starts_with("sibukyaran: the run takes 32768 MiB of memory, which cannot be had"),
-            "{}",
-            told.err
-        );
+        let memory = "sibukyaran: the run takes 32768 MiB of memory, which cannot be had";
+        assert!(told.err.starts_with(memory), "{}", told.err);
     }
     assert_eq!(bench.text("held.vec"), "as it was");
 }
