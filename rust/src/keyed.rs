@@ -1,5 +1,7 @@
 //! The keyed run.
 
+use std::collections::BTreeSet;
+
 use crate::diagonals::Diagonals;
 use crate::lent::{self, KeyedNumbers, PairRecord};
 use crate::plans::{LinearTransformationLayout, LinearTransformationStrategy, PlanWords, signed};
@@ -152,14 +154,13 @@ impl Job<'_> {
         }
     }
 
-    /// Refusal 11: the first key that is not held, and how many are not.
+    /// Refusal 11: the first key in the plan's order that is not held, and how many are not.
     fn missing(&self) -> Option<Refusal> {
-        let mut keys = self.layout.key_rotations().ok()?;
-        let first = keys.iter().copied().find(|key| !self.held.contains(key))?;
-        keys.sort_unstable();
-        keys.dedup();
-        let missing = keys.iter().filter(|key| !self.held.contains(key)).count();
-        Some(Refusal::Key { rotation: first, needed: keys.len(), missing })
+        let held: BTreeSet<u64> = self.held.iter().copied().collect();
+        let keys = self.layout.key_rotations().ok()?;
+        let rotation = *keys.iter().find(|key| !held.contains(key))?;
+        let keys: BTreeSet<u64> = keys.into_iter().collect();
+        Some(Refusal::Key { rotation, needed: keys.len(), missing: keys.difference(&held).count() })
     }
 
     /// The tree's levels, none but with powers of two.
