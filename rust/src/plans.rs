@@ -149,7 +149,11 @@ impl LinearTransformationLayout {
 
     /// The words of the plan.
     pub(crate) fn words(&self) -> Result<PlanWords, u32> {
-        let (kind, giant_step) = self.strategy.numbers();
+        self.words_by(self.strategy.numbers())
+    }
+
+    /// The words of the plan by another kind and giant step.
+    fn words_by(&self, (kind, giant_step): (u32, usize)) -> Result<PlanWords, u32> {
         let mut words = PlanWords::room(self.indexes.len(), self.slots);
         let numbers = lent::linear_transform_index(&self.indexes, self.slots, kind, giant_step, &mut words);
         PlanWords::cut(words, numbers)
@@ -202,8 +206,21 @@ impl LinearTransformationLayout {
 
     /// What the width costs: twice the larger of the numbers of distinct babies and distinct giants of the diagonals.
     /// Refused with 1, 3.
+    ///
+    /// ```
+    /// use sibukyaran::{LinearTransformationLayout, LinearTransformationStrategy::BsgsPowersOfTwo, Refusal};
+    ///
+    /// // Babies 0, 2 and 3, giant 0. The run makes baby 1 too, on its way to 3, which the width is not charged for.
+    /// let strategy = BsgsPowersOfTwo { giant_step: 4 };
+    /// let layout = LinearTransformationLayout { indexes: vec![0, 2, 3], slots: 8, strategy };
+    /// assert_eq!((layout.baby_steps()?.len(), layout.cost()?), (4, 6));
+    /// # Ok::<(), Refusal>(())
+    /// ```
     pub fn cost(&self) -> Result<usize, Refusal> {
-        let plan = self.words().map_err(|number| self.refused(number))?;
+        let (kind, giant_step) = self.strategy.numbers();
+        // With powers of two the plan's babies are the closure, which no width is charged for.
+        let kind = if kind == lent::BSGS_POWERS_OF_TWO { lent::BSGS } else { kind };
+        let plan = self.words_by((kind, giant_step)).map_err(|number| self.refused(number))?;
         let zero_is_met = (0..plan.giants).any(|g| plan.babies_of(g).first() == Some(&0));
         // The plan has the baby 0 in any case.
         let babies = plan.babies - usize::from(!zero_is_met);
