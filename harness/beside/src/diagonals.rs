@@ -112,7 +112,7 @@ pub fn buffers(random: &mut Random, result: &Stored) -> Vec<(Vec<u32>, Vec<u64>)
 }
 
 /// An index: of a stored diagonal, near, negative, huge.
-fn any_index(random: &mut Random, slots: usize) -> i64 {
+pub fn any_index(random: &mut Random, slots: usize) -> i64 {
     let near = random.below(2 * slots) as i64;
     match random.below(6) {
         0 => near - slots as i64,
@@ -287,7 +287,7 @@ fn right_from_slot_map(slots: usize, period: usize, terms: &Terms, pairs: &[u32]
     right_written(refusal, built, pairs, values)
 }
 
-fn right_rotate(src: &[u64], k: i64, out: &[u64]) -> (u32, Vec<u64>) {
+pub fn right_rotate(src: &[u64], k: i64, out: &[u64]) -> (u32, Vec<u64>) {
     if outside(src.len()) {
         return (3, out.to_vec());
     }
@@ -312,7 +312,7 @@ fn transposed(map: Map) -> Stored {
     Stored::of(&rust)
 }
 
-fn any_terms(random: &mut Random, slots: usize, period: usize, n: usize) -> Terms {
+pub fn any_terms(random: &mut Random, slots: usize, period: usize, n: usize) -> Terms {
     let mut terms = Terms::default();
     while terms.is.len() < n {
         let (i, j) = (random.below(period) as u32, random.below(slots) as u32);

@@ -15,7 +15,7 @@ use crate::sample::Sample;
 use crate::tally::{Cases, Tally};
 
 /// The file of a well-formed map.
-fn file_of(map: Map) -> Vec<u8> {
+pub fn file_of(map: Map) -> Vec<u8> {
     let rust = rust_map(map);
     let stretches: Vec<_> = rust.indexes().into_iter().map(|k| (k as u32, rust.get(k).unwrap())).collect();
     let mut file = Vec::new();
@@ -39,7 +39,7 @@ fn next_word(bytes: &mut &[u8]) -> Option<u32> {
 }
 
 /// The map of a file, or none where the bytes are no file.
-fn map_of(mut bytes: &[u8]) -> Option<Stored> {
+pub fn map_of(mut bytes: &[u8]) -> Option<Stored> {
     let slots = next_word(&mut bytes)? as usize;
     let count = next_word(&mut bytes)?;
     let mut map = Stored { slots, ..Default::default() };

@@ -23,10 +23,10 @@ use crate::tally::{Cases, Tally};
 
 /// A run but for its held list and its n.
 #[derive(Clone)]
-struct Run {
-    map: Stored,
-    input: Vec<u64>,
-    how: How,
+pub struct Run {
+    pub map: Stored,
+    pub input: Vec<u64>,
+    pub how: How,
 }
 
 impl Run {
@@ -35,12 +35,12 @@ impl Run {
         Run { map: map_of(random, slots, offsets), input: random.words(slots), how }
     }
 
-    fn job<'a>(&'a self, held: &'a [u64], n: u64) -> Job<'a> {
+    pub fn job<'a>(&'a self, held: &'a [u64], n: u64) -> Job<'a> {
         let (kind, giant_step) = self.how;
         Job { n, kind, giant_step, held, map: self.map.lent(), input: &self.input }
     }
 
-    fn plan(&self) -> Plan {
+    pub fn plan(&self) -> Plan {
         Plan::of(self.map.lent(), self.how.0, self.how.1)
     }
 }
@@ -57,7 +57,7 @@ fn map_of(random: &mut Random, slots: usize, offsets: &[i64]) -> Stored {
 }
 
 /// A map of the diagonals of any list, or of few.
-fn any_run(random: &mut Random, slots: usize) -> Run {
+pub fn any_run(random: &mut Random, slots: usize) -> Run {
     let map = if random.below(2) == 0 {
         Stored::of(&any_map(random, slots))
     } else {
@@ -79,7 +79,7 @@ fn every_how(slots: usize) -> impl Iterator<Item = How> {
 }
 
 /// Buffers of so many words and records, all different.
-fn lent(random: &mut Random, rooms: [usize; 6]) -> Buffers {
+pub fn lent(random: &mut Random, rooms: [usize; 6]) -> Buffers {
     let [plan, records, cache, nodes, log, out] = rooms.map(|room| random.words(room));
     let narrow = |words: Vec<u64>| words.into_iter().map(|w| w as u32).collect();
     let records = records.into_iter().map(|w| PairRecord { odd: w as u32, even_there: w >> 63 == 1 }).collect();
@@ -413,7 +413,7 @@ fn check_empty(cases: &mut Cases, random: &mut Random, slots: usize, how: How) {
 }
 
 /// A run of each subset of up to 8 diagonals, by every width and strategy.
-fn on_subsets(random: &mut Random, mut check: impl FnMut(&mut Random, &Run)) {
+pub fn on_subsets(random: &mut Random, mut check: impl FnMut(&mut Random, &Run)) {
     for slots in 1..=8 {
         for list in subsets(slots) {
             for how in every_how(slots) {
@@ -425,7 +425,7 @@ fn on_subsets(random: &mut Random, mut check: impl FnMut(&mut Random, &Run)) {
 }
 
 /// Any run by each kind of strategy.
-fn on_kinds(random: &mut Random, slots: usize, mut check: impl FnMut(&mut Random, &Run)) {
+pub fn on_kinds(random: &mut Random, slots: usize, mut check: impl FnMut(&mut Random, &Run)) {
     for kind in 0..3 {
         let mut run = any_run(random, slots);
         run.how.0 = kind;

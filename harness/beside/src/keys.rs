@@ -14,22 +14,22 @@ use crate::tally::{Cases, Tally};
 
 /// Rotations as C's four numbers.
 #[derive(Clone, Copy, PartialEq, Eq, Debug)]
-struct Reach {
-    kind: u32,
-    baby_step: usize,
-    giant_step: usize,
-    slots: usize,
+pub struct Reach {
+    pub kind: u32,
+    pub baby_step: usize,
+    pub giant_step: usize,
+    pub slots: usize,
 }
 
 impl Reach {
-    const PER_ROTATION: Reach = Reach { kind: PER_ROTATION, baby_step: 0, giant_step: 0, slots: 0 };
+    pub const PER_ROTATION: Reach = Reach { kind: PER_ROTATION, baby_step: 0, giant_step: 0, slots: 0 };
 
-    fn powers(baby_step: usize, giant_step: usize, slots: usize) -> Reach {
+    pub fn powers(baby_step: usize, giant_step: usize, slots: usize) -> Reach {
         Reach { kind: POWERS_OF_TWO, baby_step, giant_step, slots }
     }
 
     /// The Rust's.
-    fn rotations(self) -> BsgsRotations {
+    pub fn rotations(self) -> BsgsRotations {
         match self.kind {
             PER_ROTATION => BsgsRotations::PerRotation,
             _ => BsgsRotations::PowersOfTwo {
@@ -54,7 +54,7 @@ fn accepted(reach: Reach) -> Result<(), u32> {
 }
 
 /// and of a list of babies, before the room is known
-fn accepted_babies(reach: Reach, babies: &[i64]) -> Result<(), u32> {
+pub fn accepted_babies(reach: Reach, babies: &[i64]) -> Result<(), u32> {
     accepted(reach)?;
     let step = if reach.kind == 0 { 1 } else { reach.baby_step as i64 };
     let good = babies.iter().all(|b| (0..MOST as i64).contains(b) && b % step == 0);
@@ -62,7 +62,7 @@ fn accepted_babies(reach: Reach, babies: &[i64]) -> Result<(), u32> {
 }
 
 /// and of a list of giants
-fn accepted_giants(reach: Reach, giants: &[i64]) -> Result<(), u32> {
+pub fn accepted_giants(reach: Reach, giants: &[i64]) -> Result<(), u32> {
     accepted(reach)?;
     let bad = |g: &i64| g.rem_euclid(reach.slots as i64) % reach.giant_step as i64 != 0;
     if reach.kind != 0 && giants.iter().any(bad) { Err(10) } else { Ok(()) }
@@ -239,7 +239,7 @@ fn kept_records(room: usize) -> Vec<PairRecord> {
 }
 
 /// Each entry times the step.
-fn times(list: &[i64], step: usize) -> Vec<i64> {
+pub fn times(list: &[i64], step: usize) -> Vec<i64> {
     list.iter().map(|&k| k * step as i64).collect()
 }
 
@@ -308,7 +308,7 @@ pub fn compare(tally: &mut Tally) {
 }
 
 /// The same numbers in another order, some twice.
-fn shuffled(random: &mut Random, list: &[i64]) -> Vec<i64> {
+pub fn shuffled(random: &mut Random, list: &[i64]) -> Vec<i64> {
     let mut other = list.to_vec();
     for &k in list {
         if random.below(3) == 0 {

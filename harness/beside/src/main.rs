@@ -16,6 +16,7 @@ mod keys;
 mod linear_transformation;
 mod machine;
 mod matrices;
+mod owned;
 mod plans;
 mod random;
 mod ring;
@@ -40,6 +41,7 @@ fn compare() -> ExitCode {
         matrices::compare(&mut tally);
         runs::compare(&mut tally);
         keyed::compare(&mut tally);
+        owned::compare(&mut tally);
         drop_in::compare(&mut tally);
         sample::compare(&mut tally);
         tally.close()

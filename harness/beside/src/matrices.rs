@@ -17,14 +17,14 @@ use crate::tally::{Cases, Tally};
 type F = Wrapping<u64>;
 
 /// A map that reads one entry or none; one that does not shift leaves k alone.
-struct Rule {
-    name: &'static str,
-    shifts: bool,
+pub struct Rule {
+    pub name: &'static str,
+    pub shifts: bool,
     rust: fn(usize, usize, usize) -> Words,
     ours: fn(usize, usize, usize, &mut [u32], &mut [u64]) -> Numbers,
 }
 
-const RULES: [Rule; 11] = [
+pub const RULES: [Rule; 11] = [
     Rule {
         name: "sigma",
         shifts: false,
@@ -54,21 +54,21 @@ const RULES: [Rule; 11] = [
 ];
 
 /// The products by public matrices: their names, and ours.
-type Product = (&'static str, fn(usize, usize, usize, &[u64], &mut [u32], &mut [u64]) -> Numbers);
+pub type Product = (&'static str, fn(usize, usize, usize, &[u64], &mut [u32], &mut [u64]) -> Numbers);
 
-const PRODUCTS: [Product; 4] = [
+pub const PRODUCTS: [Product; 4] = [
     ("right_mul", ours::right_mul),
     ("left_mul", ours::left_mul),
     ("right_jkls", ours::right_jkls),
     ("left_jkls", ours::left_jkls),
 ];
 
-fn square(log_d: usize) -> usize {
+pub fn square(log_d: usize) -> usize {
     1 << (2 * log_d)
 }
 
 /// Document 01's refusals 1 and 5.
-fn tiled(slots: usize, log_d: usize, count: usize) -> Result<(), u32> {
+pub fn tiled(slots: usize, log_d: usize, count: usize) -> Result<(), u32> {
     if outside(slots) {
         return Err(1);
     }
@@ -76,7 +76,7 @@ fn tiled(slots: usize, log_d: usize, count: usize) -> Result<(), u32> {
     if tiles { Ok(()) } else { Err(5) }
 }
 
-fn right_rule(rule: usize, slots: usize, log_d: usize, k: usize) -> Result<Words, u32> {
+pub fn right_rule(rule: usize, slots: usize, log_d: usize, k: usize) -> Result<Words, u32> {
     tiled(slots, log_d, 1)?;
     let Rule { shifts, rust, .. } = RULES[rule];
     if shifts && k > 1 << log_d { Err(6) } else { Ok(rust(slots, log_d, k)) }
@@ -93,7 +93,7 @@ fn product(p: usize, slots: usize, log_d: usize, count: usize, b: &[u64]) -> Wor
     }
 }
 
-fn right_product(p: usize, slots: usize, log_d: usize, count: usize, b: &[u64]) -> Result<Words, u32> {
+pub fn right_product(p: usize, slots: usize, log_d: usize, count: usize, b: &[u64]) -> Result<Words, u32> {
     tiled(slots, log_d, count)?;
     if b.len() != count * square(log_d) { Err(7) } else { Ok(product(p, slots, log_d, count, b)) }
 }
@@ -165,7 +165,7 @@ fn check_product(cases: &mut Cases, p: usize, slots: usize, log_d: usize, count:
     check_map(cases, &name, right_product(p, slots, log_d, count, b), call);
 }
 
-fn right_left_mul_rep(slots: usize, log_d: usize, b: &[u64]) -> Result<Words, u32> {
+pub fn right_left_mul_rep(slots: usize, log_d: usize, b: &[u64]) -> Result<Words, u32> {
     tiled(slots, log_d, 1)?;
     if b.len() != square(log_d) {
         return Err(7);
@@ -174,15 +174,15 @@ fn right_left_mul_rep(slots: usize, log_d: usize, b: &[u64]) -> Result<Words, u3
     Ok(rust::left_mul_rep(slots, log_d, |_, r, c| Wrapping(b[r * d + c])))
 }
 
-fn right_rows_rep(slots: usize, log_d: usize, k: usize) -> Result<Words, u32> {
+pub fn right_rows_rep(slots: usize, log_d: usize, k: usize) -> Result<Words, u32> {
     tiled(slots, log_d, 1)?;
     if k < 1 || k >= 1 << log_d { Err(6) } else { Ok(rust::rotate_rows_rep(slots, log_d, k)) }
 }
 
 /// A map of slots and log_d alone that does not shrink: its name, the Rust's, ours.
-type Plain = (&'static str, fn(usize, usize) -> Words, fn(usize, usize, &mut [u32], &mut [u64]) -> Numbers);
+pub type Plain = (&'static str, fn(usize, usize) -> Words, fn(usize, usize, &mut [u32], &mut [u64]) -> Numbers);
 
-const PLAIN: [Plain; 3] = [
+pub const PLAIN: [Plain; 3] = [
     ("tau_rep", rust::tau_rep::<F>, ours::tau_rep),
     ("first_row", rust::first_row::<F>, ours::first_row),
     ("first_col", rust::first_col::<F>, ours::first_col),
@@ -207,7 +207,7 @@ fn check_left_mul_rep(cases: &mut Cases, slots: usize, log_d: usize, b: &[u64]) 
 }
 
 /// tau_values and sigma_values.
-fn right_values(rows: bool, log_d: usize, count: usize, b: &[u64]) -> Result<Vec<u64>, u32> {
+pub fn right_values(rows: bool, log_d: usize, count: usize, b: &[u64]) -> Result<Vec<u64>, u32> {
     let fits = log_d <= 8 && count > 0 && count.checked_mul(square(log_d)).is_some_and(|n| n <= MOST);
     if !fits {
         return Err(5);
@@ -240,7 +240,7 @@ fn check_values(cases: &mut Cases, log_d: usize, count: usize, b: &[u64]) {
     }
 }
 
-fn right_slot_product(slots: usize, v: &[u64], rotation: i64) -> Result<Words, u32> {
+pub fn right_slot_product(slots: usize, v: &[u64], rotation: i64) -> Result<Words, u32> {
     if outside(slots) {
         return Err(1);
     }
@@ -294,7 +294,7 @@ fn check_closure(cases: &mut Cases, slots: usize, log_d: usize, terms: &Terms) {
 }
 
 /// Public matrices: random, zero, or with a period.
-fn any_matrices(random: &mut Random, n: usize) -> Vec<u64> {
+pub fn any_matrices(random: &mut Random, n: usize) -> Vec<u64> {
     match random.below(3) {
         0 => vec![0; n],
         1 => {

@@ -42,7 +42,7 @@ fn right_evaluate(map: Map, input: &[u64], strategy: Strategy, out: &[u64]) -> (
     (0, product.iter().map(|w| w.0).chain(out[map.slots..].iter().copied()).collect())
 }
 
-fn any_strategy(random: &mut Random, slots: usize) -> Strategy {
+pub fn any_strategy(random: &mut Random, slots: usize) -> Strategy {
     let widths = [1, 2, slots, slots + 1, 65_536, 1 + random.below(2 * slots), 1 + random.below(slots)];
     let giant_step = widths[random.below(widths.len())].min(65_536);
     match random.below(3) {
