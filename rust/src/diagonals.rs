@@ -54,9 +54,25 @@ impl Terms {
     }
 
     /// How many diagonals the terms reach.
-    pub fn diagonals(&self, slots: usize) -> usize {
+    fn diagonals(&self, slots: usize) -> usize {
         let offsets: Vec<i64> = self.is.iter().zip(&self.js).map(|(&i, &j)| j as i64 - i as i64).collect();
         distinct(&offsets, slots)
+    }
+
+    /// The map that a call makes of the terms, each diagonal that they reach at a period, or its refusal.
+    pub fn built(
+        &self,
+        slots: usize,
+        period: usize,
+        call: impl Fn(&mut [u32], &mut [u64]) -> Numbers,
+    ) -> Result<Diagonals, u32> {
+        // Without room: a refusal before that of the room, so that no map is made room for in vain.
+        let refusal = call(&mut [], &mut []).refusal;
+        if refusal != 0 && refusal != 12 {
+            return Err(refusal);
+        }
+        let count = self.diagonals(slots);
+        Diagonals::built(slots, count, count * period, call)
     }
 
     /// Refusal 8.
@@ -194,12 +210,9 @@ impl Diagonals {
         terms: impl IntoIterator<Item = (usize, usize, u64)>,
     ) -> Result<Diagonals, Refusal> {
         let terms = Terms::of(terms);
-        let count = terms.diagonals(slots);
-        // A longer period is refused, whatever the room.
-        let room = if period > slots { 0 } else { count * period };
         let call =
             |p: &mut [u32], v: &mut [u64]| lent::from_slot_map(slots, period, &terms.is, &terms.js, &terms.ws, p, v);
-        Diagonals::built(slots, count, room, call).map_err(|number| match number {
+        terms.built(slots, period, call).map_err(|number| match number {
             1 => Refusal::Slots { slots },
             4 => Refusal::Period { argument: "the period", length: period, slots },
             8 => terms.refused(period, slots),

@@ -175,9 +175,8 @@ pub fn per_matrix_terms(
 ) -> Result<Diagonals, Refusal> {
     let terms = Terms::of(terms);
     let period = side(log_d).map_or(0, |d| d * d);
-    let count = terms.diagonals(slots);
     let call = |p: &mut [u32], v: &mut [u64]| lent::per_matrix_map(slots, log_d, &terms.is, &terms.js, &terms.ws, p, v);
-    Diagonals::built(slots, count, count * period, call).map_err(|number| match number {
+    terms.built(slots, period, call).map_err(|number| match number {
         8 => terms.refused(period, slots),
         number => refused(number, slots, log_d, 1, None),
     })
