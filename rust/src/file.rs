@@ -44,3 +44,36 @@ pub(crate) fn fault(bytes: &[u8]) -> Option<FileFault> {
     }
     short(wanted).or((length > wanted).then_some(FileFault::Long { length, wanted }))
 }
+
+#[cfg(test)]
+mod tests {
+    use super::fault;
+    use crate::{Diagonals, Refusal, lent};
+
+    /// A fault is found in these bytes just where the library refuses them.
+    #[track_caller]
+    fn same(bytes: &[u8]) {
+        assert_eq!(fault(bytes).is_some(), lent::map_file_room(bytes).refusal != 0, "{bytes:?}");
+    }
+
+    #[test]
+    fn a_fault_is_found_where_the_library_refuses() -> Result<(), Refusal> {
+        let maps = [
+            Diagonals::new(1)?,
+            Diagonals::new(65_536)?,
+            Diagonals::from_slot_map(4, 2, [(0, 1, 12), (1, 0, 2)])?,
+            Diagonals::from_slot_map(6, 3, [(0, 0, 1), (2, 5, u64::MAX), (1, 5, 0)])?,
+        ];
+        for file in maps.map(|map| map.write_map_file()) {
+            assert_eq!(fault(&file), None);
+            (0..file.len()).for_each(|n| same(&file[..n]));
+            (0..=255).for_each(|byte| same(&[&file[..], &[byte]].concat()));
+            for (at, byte) in (0..file.len()).flat_map(|at| (0..=255).map(move |byte| (at, byte))) {
+                let mut bytes = file.clone();
+                bytes[at] = byte;
+                same(&bytes);
+            }
+        }
+        Ok(())
+    }
+}
