@@ -39,15 +39,20 @@ pub(crate) struct Terms {
     pub is: Vec<u32>,
     pub js: Vec<u32>,
     pub ws: Vec<u64>,
+    /// The first term that has such a number, to be told as it was given: its place, i and j.
+    beyond: Option<(usize, usize, usize)>,
 }
 
 impl Terms {
     pub fn of(terms: impl IntoIterator<Item = (usize, usize, u64)>) -> Terms {
-        let mut lists = Terms { is: Vec::new(), js: Vec::new(), ws: Vec::new() };
-        for (i, j, w) in terms {
-            let [i, j] = [i, j].map(|n| u32::try_from(n).unwrap_or(u32::MAX));
-            lists.is.push(i);
-            lists.js.push(j);
+        let mut lists = Terms { is: Vec::new(), js: Vec::new(), ws: Vec::new(), beyond: None };
+        for (at, (i, j, w)) in terms.into_iter().enumerate() {
+            let words = [i, j].map(|n| u32::try_from(n).ok());
+            if words.contains(&None) {
+                lists.beyond.get_or_insert((at, i, j));
+            }
+            lists.is.push(words[0].unwrap_or(u32::MAX));
+            lists.js.push(words[1].unwrap_or(u32::MAX));
             lists.ws.push(w);
         }
         lists
@@ -79,7 +84,9 @@ impl Terms {
     pub fn refused(&self, period: usize, slots: usize) -> Refusal {
         let outside = |&at: &usize| self.is[at] as usize >= period || self.js[at] as usize >= slots;
         let at = (0..self.is.len()).find(outside).unwrap_or_else(|| unexpected(8));
-        Refusal::Term { at, i: self.is[at] as usize, j: self.js[at] as usize, period, slots }
+        let as_listed = (at, self.is[at] as usize, self.js[at] as usize);
+        let (at, i, j) = self.beyond.filter(|&(beyond, ..)| beyond == at).unwrap_or(as_listed);
+        Refusal::Term { at, i, j, period, slots }
     }
 }
 
@@ -88,7 +95,7 @@ impl Diagonals {
     pub fn new(slots: usize) -> Result<Diagonals, Refusal> {
         match lent::new(slots).refusal {
             0 => Ok(Diagonals { slots, pairs: Vec::new(), values: Vec::new() }),
-            1 => Err(Refusal::Slots { slots }),
+            1 => Err(Refusal::of_slots(slots)),
             number => unexpected(number),
         }
     }
@@ -124,7 +131,7 @@ impl Diagonals {
                 owned.cut(map.count);
                 Ok(owned)
             }
-            1 => Err(Refusal::Slots { slots: map.slots }),
+            1 => Err(Refusal::of_slots(map.slots)),
             2 => Err(Refusal::NotAMap),
             number => unexpected(number),
         }
@@ -213,7 +220,7 @@ impl Diagonals {
         let call =
             |p: &mut [u32], v: &mut [u64]| lent::from_slot_map(slots, period, &terms.is, &terms.js, &terms.ws, p, v);
         terms.built(slots, period, call).map_err(|number| match number {
-            1 => Refusal::Slots { slots },
+            1 => Refusal::of_slots(slots),
             4 => Refusal::Period { argument: "the period", length: period, slots },
             8 => terms.refused(period, slots),
             _ => unexpected(number),
@@ -306,8 +313,8 @@ pub fn period_lcm(a: usize, b: usize) -> Result<usize, Refusal> {
     let answer = lent::period_lcm(a, b);
     match answer.refusal {
         0 => Ok(answer.value),
-        3 if is_outside(a) => Err(Refusal::OutOfRange { argument: "the first period", value: a }),
-        3 => Err(Refusal::OutOfRange { argument: "the second period", value: b }),
+        3 if is_outside(a) => Err(Refusal::out_of_range("the first period", a)),
+        3 => Err(Refusal::out_of_range("the second period", b)),
         number => unexpected(number),
     }
 }
@@ -317,7 +324,7 @@ pub fn min_period(v: &[u64]) -> Result<usize, Refusal> {
     let answer = lent::min_period(v);
     match answer.refusal {
         0 => Ok(answer.value),
-        3 => Err(Refusal::OutOfRange { argument: "the length", value: v.len() }),
+        3 => Err(Refusal::out_of_range("the length", v.len())),
         number => unexpected(number),
     }
 }
@@ -326,7 +333,7 @@ pub fn min_period(v: &[u64]) -> Result<usize, Refusal> {
 pub fn rotate_slots_into(src: &[u64], k: i64, out: &mut [u64]) -> Result<(), Refusal> {
     match lent::rotate_slots_into(src, k, out) {
         0 => Ok(()),
-        3 => Err(Refusal::OutOfRange { argument: "the length of the source", value: src.len() }),
+        3 => Err(Refusal::out_of_range("the length of the source", src.len())),
         7 => Err(Refusal::Length { argument: "out", length: out.len(), wanted: src.len(), multiple: true }),
         number => unexpected(number),
     }

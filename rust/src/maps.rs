@@ -30,7 +30,7 @@ fn room(log_d: usize, period: impl FnOnce(usize) -> usize) -> (usize, usize) {
 /// What a number of the library is about: `shifts` is the range of k.
 fn refused(number: u32, slots: usize, log_d: usize, count: usize, shift: Option<(usize, usize, usize)>) -> Refusal {
     match (number, shift) {
-        (1, _) => Refusal::Slots { slots },
+        (1, _) => Refusal::of_slots(slots),
         (5, _) => Refusal::Matrices { log_d, count, slots: Some(slots) },
         (6, Some((k, least, most))) => Refusal::Shift { k, least, most },
         _ => unexpected(number),

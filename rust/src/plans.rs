@@ -33,7 +33,7 @@ impl LinearTransformationStrategy {
 
     /// Refusal 3.
     pub(crate) fn refused(self) -> Refusal {
-        Refusal::OutOfRange { argument: "the giant step", value: self.numbers().1 }
+        Refusal::out_of_range("the giant step", self.numbers().1)
     }
 }
 
@@ -137,7 +137,7 @@ impl LinearTransformationLayout {
     /// What a number of the library is about.
     fn refused(&self, number: u32) -> Refusal {
         match number {
-            1 => Refusal::Slots { slots: self.slots },
+            1 => Refusal::of_slots(self.slots),
             3 => self.strategy.refused(),
             _ => unexpected(number),
         }
@@ -239,7 +239,7 @@ pub fn optimal_bsgs_giant_step(indexes: impl IntoIterator<Item = i64>, slots: us
     let answer = lent::optimal_bsgs_giant_step(&indexes, slots);
     match answer.refusal {
         0 => Ok(answer.value),
-        1 => Err(Refusal::Slots { slots }),
+        1 => Err(Refusal::of_slots(slots)),
         number => unexpected(number),
     }
 }

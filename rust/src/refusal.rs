@@ -22,8 +22,8 @@ pub const MOST: usize = 65_536;
 pub enum Refusal {
     /// 1: slots is below 1 or above 65,536.
     Slots {
-        /// The slots.
-        slots: usize,
+        /// The slots; a list of rotations can name negative ones.
+        slots: i128,
     },
     /// 2: words that were lent as a map are none.
     NotAMap,
@@ -31,8 +31,8 @@ pub enum Refusal {
     OutOfRange {
         /// What it is.
         argument: &'static str,
-        /// How much it is.
-        value: usize,
+        /// How much it is; rotations can have a negative step.
+        value: i128,
     },
     /// 4: a period or the length of values is 0 or does not divide slots.
     Period {
@@ -179,6 +179,16 @@ pub enum FileFault {
 }
 
 impl Refusal {
+    /// Refusal 1.
+    pub(crate) fn of_slots(slots: usize) -> Refusal {
+        Refusal::Slots { slots: slots as i128 }
+    }
+
+    /// Refusal 3.
+    pub(crate) fn out_of_range(argument: &'static str, value: usize) -> Refusal {
+        Refusal::OutOfRange { argument, value: value as i128 }
+    }
+
     /// Document 01's or 02's number.
     pub fn number(&self) -> u32 {
         match self {

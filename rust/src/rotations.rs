@@ -66,20 +66,26 @@ impl BsgsRotations {
 
     /// What a number of the library is about, for a list of babies or giants.
     fn refused(self, number: u32, list: &[i64]) -> Refusal {
-        let (kind, baby_step, giant_step, slots) = self.numbers();
-        let first = |is_bad: &dyn Fn(i64) -> bool| list.iter().copied().find(|&k| is_bad(k));
-        match number {
-            1 => Refusal::Slots { slots },
-            3 if is_outside(baby_step) => Refusal::OutOfRange { argument: "the baby step", value: baby_step },
-            3 => Refusal::OutOfRange { argument: "the giant step", value: giant_step },
-            9 => {
-                let baby_step = if kind == lent::PER_ROTATION { 1 } else { baby_step };
-                let is_bad = |k: i64| !(0..MOST as i64).contains(&k) || k % baby_step as i64 != 0;
-                Refusal::Baby { baby: first(&is_bad).unwrap_or_else(|| unexpected(9)), baby_step }
+        let first = |is_bad: &dyn Fn(i64) -> bool| {
+            list.iter().copied().find(|&k| is_bad(k)).unwrap_or_else(|| unexpected(number))
+        };
+        let is_baby = |k: i64| (0..MOST as i64).contains(&k);
+        match (number, self) {
+            (1, Self::PowersOfTwo { slots, .. }) => Refusal::Slots { slots: slots.into() },
+            (3, Self::PowersOfTwo { baby_step, giant_step, .. }) => {
+                let steps = [("the baby step", baby_step), ("the giant step", giant_step)];
+                let (argument, value) = if is_outside(size(baby_step)) { steps[0] } else { steps[1] };
+                Refusal::OutOfRange { argument, value: value.into() }
             }
-            10 => {
-                let is_bad = |k: i64| lent::giant_digit(k, giant_step, slots).refusal == 10;
-                Refusal::Giant { giant: first(&is_bad).unwrap_or_else(|| unexpected(10)), giant_step, slots }
+            (9, Self::PerRotation) => Refusal::Baby { baby: first(&|k| !is_baby(k)), baby_step: 1 },
+            (9, Self::PowersOfTwo { baby_step, .. }) => {
+                let baby = first(&|k| !is_baby(k) || k % baby_step != 0);
+                Refusal::Baby { baby, baby_step: size(baby_step) }
+            }
+            (10, Self::PowersOfTwo { giant_step, slots, .. }) => {
+                let (giant_step, slots) = (size(giant_step), size(slots));
+                let giant = first(&|k| lent::giant_digit(k, giant_step, slots).refusal == 10);
+                Refusal::Giant { giant, giant_step, slots }
             }
             _ => unexpected(number),
         }

@@ -43,6 +43,7 @@ fn refusal_1_is_of_slots() {
     refused(powers(1, 1, 65_537).baby_closure([]), 1, of(65_537), sentence);
     refused(powers(1, 1, 65_537).giant_tree([]), 1, of(65_537), sentence);
     refused(maps::sigma(65_537, 0), 1, of(65_537), sentence);
+    refused(powers(1, 1, -5).giant_tree([]), 1, of(-5), "slots is -5: it must be from 1 to 65536");
     let map = lent::Map { slots: 0, count: 0, pairs: &[], values: &[] };
     refused(Diagonals::from_lent(map), 1, of(0), "slots is 0: it must be from 1 to 65536");
 }
@@ -81,6 +82,8 @@ fn refusal_3_is_of_a_number_out_of_range() {
     refused(powers(1, 65_537, 16).giant_key_switches([]), 3, wide, sentence);
     let sentence = "the baby step is 0: it must be from 1 to 65536";
     refused(powers(0, 0, 16).baby_passes([]), 3, of("the baby step", 0), sentence);
+    let sentence = "the giant step is -4: it must be from 1 to 65536";
+    refused(powers(4, -4, 16).baby_closure([]), 3, of("the giant step", -4), sentence);
 }
 
 #[test]
@@ -142,6 +145,9 @@ fn refusal_8_is_of_a_term() {
     refused(Diagonals::from_slot_map(4, 2, [(0, 0, 1), (2, 0, 1)]), 8, of(1, 2, 0, 2, 4), sentence);
     let sentence = "term 0 has i = 0 and j = 4: i must be below the period 2 and j below the 4 slots";
     refused(Diagonals::from_slot_map(4, 2, [(0, 4, 1)]), 8, of(0, 0, 4, 2, 4), sentence);
+    let sentence = "term 1 has i = 0 and j = 4294967297: i must be below the period 2 and j below the 4 slots";
+    let beyond = [(0, 0, 1), (0, (1 << 32) + 1, 1), (1 << 40, 0, 1)];
+    refused(Diagonals::from_slot_map(4, 2, beyond), 8, of(1, 0, (1 << 32) + 1, 2, 4), sentence);
     let sentence = "term 3 has i = 3 and j = 6: i must be below the period 4 and j below the 4 slots";
     let terms = |r, c| [if (r, c) == (1, 1) { (3, 0, 1) } else { (r, c, 1) }];
     refused(maps::per_matrix_map(4, 1, terms), 8, of(3, 3, 6, 4, 4), sentence);
