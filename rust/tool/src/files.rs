@@ -1,5 +1,6 @@
 //! Files and pipes. A file is written beside its place and renamed, so that it is either as it was or whole.
 
+use std::collections::BTreeSet;
 use std::fs;
 use std::io::{self, IsTerminal, Read, Write};
 use std::path::{Path, PathBuf};
@@ -121,8 +122,17 @@ impl Outputs {
         self.all.push((name.to_string(), bytes));
     }
 
+    /// Whether standard output is one of them, so that nothing else is printed there.
+    pub fn has_pipe(&self) -> bool {
+        self.all.iter().any(|(name, _)| name == PIPE)
+    }
+
     /// Writes each beside its place, then renames all. Where one cannot be written, none is renamed.
     pub fn write(self) -> Result<(), Failure> {
+        let names: BTreeSet<&str> = self.all.iter().map(|(name, _)| &name[..]).collect();
+        if names.len() < self.all.len() {
+            return Err(Failure::Usage("two outputs have one name".to_string()));
+        }
         let mut beside = Beside::default();
         for (name, bytes) in self.all.iter().filter(|(name, _)| name != PIPE) {
             beside.add(name, bytes).map_err(|error| Failure::of_file(name, &error))?;

@@ -34,7 +34,7 @@ pub const WIDTH: Command = Command {
          those that the best one is chosen from: the multiples of the smallest gap between diagonals, below slots. The M\n\
          best are listed (10 without it), of equal cost the larger first.\n\n\
          --picture   cost by width, as text\n\
-         --svg FILE  the same as a picture"
+         --svg FILE  the same as a picture; - for a pipe"
     ),
     options: &["--slots", "--diagonals", "--most", "--svg"],
     flags: &["--picture", "--json"],
@@ -50,7 +50,7 @@ pub const PLAN: Command = Command {
         "\n\nS is bsgs:W (a key for each rotation of the plan of width W), powers:W (the same plan by keys of powers of two)\n\
          or direct (a rotation for each diagonal). Without :W the best width is taken.\n\n\
          --picture   the plan as a grid, as text: giants down, babies across, a mark for each diagonal\n\
-         --svg FILE  the same as a picture"
+         --svg FILE  the same as a picture; - for a pipe"
     ),
     options: &["--slots", "--diagonals", "--strategy", "--svg"],
     flags: &["--picture", "--json"],
@@ -164,14 +164,15 @@ fn picture(layout: &LinearTransformationLayout, plan: LinearTransformationPlan) 
     })
 }
 
-/// Writes the picture that is asked for, and then the text.
+/// Writes the picture that is asked for, and then the text; a picture that goes through a pipe stands alone.
 fn show(args: &Args, text: String, svg: impl FnOnce() -> String) -> Result<(), Failure> {
     let mut outputs = Outputs::default();
     if let Some(name) = args.option("--svg") {
         outputs.add(name, svg().into_bytes());
     }
+    let alone = outputs.has_pipe();
     outputs.write()?;
-    files::print_text(&text)
+    if alone { Ok(()) } else { files::print_text(&text) }
 }
 
 fn plan_json(layout: &LinearTransformationLayout, plan: &LinearTransformationPlan) -> Result<Json, Failure> {

@@ -133,10 +133,11 @@ fn run(args: &Args) -> Result<(), Failure> {
     if let Some(name) = args.option("--state") {
         outputs.add(name, format!("{}\n", state(&run)).into_bytes());
     }
+    let alone = outputs.has_pipe();
     outputs.write()?;
     let told = told(&run, strategy, args.has("--json"));
-    // The answer of a pipe stands alone.
-    if args.option("-o") == Some(files::PIPE) {
+    // What goes through a pipe stands alone.
+    if alone {
         eprint!("{told}");
         return Ok(());
     }

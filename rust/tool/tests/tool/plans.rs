@@ -119,6 +119,7 @@ fn pictures_are_written() {
         assert!(svg.starts_with("<svg ") && svg.trim_end().ends_with("</svg>"), "{words}");
         bench.does(&format!("{words} --svg again.svg"));
         assert_eq!(bench.text("again.svg"), svg, "{words}: the same picture each time");
+        assert_eq!(bench.does(&format!("{words} --svg -")).text(), svg, "{words}: alone through a pipe");
     }
 }
 

@@ -58,6 +58,8 @@ fn a_run_reads_and_writes_text_and_pipes() {
     let told = bench.piped("run e6.map - --strategy powers:4 --keys keys.txt -o -", &vector(&input()));
     assert_eq!((told.status, &told.out), (Some(0), &vector(&product())));
     assert_eq!(told.err, "powers:4: 6 of 6 key switches, finished\n");
+    let told = bench.run(&format!("{RUN} --log - -o held.vec"));
+    assert_eq!((told.text(), told.err.is_empty()), ("1\n2\n2\n4\n4\n8\n", false));
     let told = bench.piped("run - in.vec --strategy direct --keys all.txt -o out.vec", &map().write_map_file());
     assert_eq!(told.status, Some(1), "direct needs the keys 1 2 5 15");
     bench.misused("run - - --strategy direct --keys all.txt", "one of the files can be a pipe");
@@ -109,6 +111,7 @@ fn bad_runs_are_refused_and_files_stay() {
     bench.write("wrong.txt", "1 2\n");
     bench
         .not_taken("run e6.map in.vec --strategy powers:4 --keys wrong.txt -o held.vec", "wrong.txt, line 1: it has 2");
+    bench.misused(&format!("{RUN} -o held.vec --log held.vec"), "two outputs have one name");
     // One file that cannot be written keeps the others as they were.
     bench.not_taken(&format!("{RUN} -o held.vec --log no/log.txt"), "no/log.txt: No such file");
     bench.misused("run e6.map in.vec --strategy powers:4", "--keys is missing");
