@@ -263,9 +263,9 @@ fn show_matrices(f: &mut fmt::Formatter, log_d: usize, count: usize, slots: Opti
     let d = 1 << log_d;
     match slots {
         Some(slots) => {
-            write!(f, "count is {count}: matrices of {d} by {d}, count of them, must divide the {slots} slots")
+            write!(f, "count is {count} and d is {d}: count * d * d must divide the {slots} slots")
         }
-        None => write!(f, "count is {count}: matrices of {d} by {d}, count of them, must be at most {MOST} values"),
+        None => write!(f, "count is {count} and d is {d}: count * d * d must be at most {MOST}"),
     }
 }
 

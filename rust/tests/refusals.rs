@@ -110,12 +110,12 @@ fn refusal_5_is_of_matrices() {
     refused(maps::sigma(4, 9), 5, of(9, 1, Some(4)), "log_d is 9: it must be from 0 to 8");
     let one = |_, _, _| 1;
     refused(maps::right_mul(4, 1, 0, one), 5, of(1, 0, Some(4)), "count is 0: it must be at least 1");
-    let sentence = "count is 2: matrices of 2 by 2, count of them, must divide the 4 slots";
+    let sentence = "count is 2 and d is 2: count * d * d must divide the 4 slots";
     refused(maps::left_jkls(4, 1, 2, one), 5, of(1, 2, Some(4)), sentence);
-    let sentence = "count is 1: matrices of 2 by 2, count of them, must divide the 5 slots";
+    let sentence = "count is 1 and d is 2: count * d * d must divide the 5 slots";
     refused(maps::left_mul_rep(5, 1, one), 5, of(1, 1, Some(5)), sentence);
     refused(maps::per_matrix_map(5, 1, |_, _| [(9, 9, 9)]), 5, of(1, 1, Some(5)), sentence);
-    let sentence = "count is 65537: matrices of 1 by 1, count of them, must be at most 65536 values";
+    let sentence = "count is 65537 and d is 1: count * d * d must be at most 65536";
     refused(maps::tau_values(0, 65_537, one), 5, of(0, 65_537, None), sentence);
 }
 

@@ -132,7 +132,7 @@ fn bad_matrix_maps_are_refused() {
     let build = |words: &str| format!("map build {words} -o e3.map");
     bench.refused(&build("sigma --slots 0 --log-d 1"), 1, "slots is 0: it must be from 1 to 65536");
     bench.refused(&build("sigma --slots 4 --log-d 9"), 5, "log_d is 9: it must be from 0 to 8");
-    let tiles = "count is 1: matrices of 2 by 2, count of them, must divide the 6 slots";
+    let tiles = "count is 1 and d is 2: count * d * d must divide the 6 slots";
     bench.refused(&build("sigma --slots 6 --log-d 1"), 5, tiles);
     bench.refused(&build("rows_lower --slots 4 --log-d 1 -k 3"), 6, "k is 3: the shift must be from 0 to 2");
     bench.refused(&build("rotate_rows_rep --slots 4 --log-d 1 -k 2"), 6, "k is 2: the shift must be from 1 to 1");
