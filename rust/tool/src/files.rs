@@ -182,12 +182,18 @@ impl Drop for Beside {
     }
 }
 
-/// Writes bytes that are no text to a file, or through a pipe, but not to a terminal.
-pub fn write_bytes(name: Option<&str>, bytes: Vec<u8>) -> Result<(), Failure> {
-    let name = name.unwrap_or(PIPE);
+/// Whether bytes that are no text can be written there: to a file, or through a pipe, but not to a terminal.
+pub fn takes_bytes(name: &str) -> Result<(), Failure> {
     if name == PIPE && io::stdout().is_terminal() {
         return Err(Failure::Usage("bytes are not shown on a terminal: give -o FILE, or a pipe".to_string()));
     }
+    Ok(())
+}
+
+/// Writes bytes that are no text.
+pub fn write_bytes(name: Option<&str>, bytes: Vec<u8>) -> Result<(), Failure> {
+    let name = name.unwrap_or(PIPE);
+    takes_bytes(name)?;
     let mut outputs = Outputs::default();
     outputs.add(name, bytes);
     outputs.write()

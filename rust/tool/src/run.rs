@@ -19,11 +19,12 @@ pub const RUN: Command = Command {
     help: "MAP is a map file; INPUT is a vector of as many slots. S is as for 'plan'. Either may be - for a pipe.\n\n\
            --keys FILE   the rotations whose keys are held, one a line, in any order\n\
            -n N          stop after N key switches; without it the run goes on to its end\n\
-           -o FILE       the answer of a finished run; - for a pipe\n\
+           -o FILE       the answer of a finished run; without it, or with -, to standard output\n\
            --log FILE    the rotation of each switch that was made, one a line\n\
            --state FILE  plan, pairs, cache and nodes as the run leaves them, as JSON\n\
            --text        INPUT and the answer have one number a line, in place of eight bytes a slot, least first\n\
            --json        tells what the run made as JSON\n\n\
+           What the run made is told on standard output, or on standard error where that has the answer, the log or the state.\n\
            A run that stops before its end has no answer, and the file of -o stays as it was.",
     options: &["--strategy", "--keys", "-n", "-o", "--log", "--state"],
     flags: &["--text", "--json"],
@@ -115,7 +116,11 @@ fn run(args: &Args) -> Result<(), Failure> {
     if [Some(map), Some(input), args.option("--keys")].iter().filter(|&&name| name == Some(files::PIPE)).count() > 1 {
         return Err(Failure::Usage("one of the files can be a pipe".to_string()));
     }
-    let (map, text) = (files::read_map(map)?, args.has("--text"));
+    let (out, text) = (args.option("-o").unwrap_or(files::PIPE), args.has("--text"));
+    if !text {
+        files::takes_bytes(out)?;
+    }
+    let map = files::read_map(map)?;
     let input = files::read_vector(input, text)?;
     let strategy = strategy(args.needed("--strategy")?, &map.indexes(), map.slots())?;
     let held = files::read_list(args.needed("--keys")?)?;
@@ -124,8 +129,8 @@ fn run(args: &Args) -> Result<(), Failure> {
     let expected = expected(&map, &input, strategy)?;
     let run = watched("running", expected, || map.evaluate_keyed_up_to(&input, strategy, &held, n))?;
     let mut outputs = Outputs::default();
-    if let (Some(name), Some(out)) = (args.option("-o"), run.out()) {
-        outputs.add(name, files::vector_bytes(out, text));
+    if let Some(answer) = run.out() {
+        outputs.add(out, files::vector_bytes(answer, text));
     }
     if let Some(name) = args.option("--log") {
         outputs.add(name, files::list_bytes(run.log()));
@@ -133,7 +138,7 @@ fn run(args: &Args) -> Result<(), Failure> {
     if let Some(name) = args.option("--state") {
         outputs.add(name, format!("{}\n", state(&run)).into_bytes());
     }
-    let alone = outputs.has_pipe();
+    let alone = out == files::PIPE || outputs.has_pipe();
     outputs.write()?;
     let told = told(&run, strategy, args.has("--json"));
     // What goes through a pipe stands alone.

@@ -55,9 +55,11 @@ fn a_run_reads_and_writes_text_and_pipes() {
     let json = "{\"strategy\":\"bsgs:4\",\"switches\":5,\"all_switches\":5,\"finished\":true}\n";
     assert_eq!(bench.does(words).text(), json);
     assert_eq!(bench.text("out.txt"), product().iter().map(|slot| format!("{slot}\n")).collect::<String>());
-    let told = bench.piped("run e6.map - --strategy powers:4 --keys keys.txt -o -", &vector(&input()));
-    assert_eq!((told.status, &told.out), (Some(0), &vector(&product())));
-    assert_eq!(told.err, "powers:4: 6 of 6 key switches, finished\n");
+    for out in ["", "-o -"] {
+        let told = bench.piped(&format!("run e6.map - --strategy powers:4 --keys keys.txt {out}"), &vector(&input()));
+        assert_eq!((told.status, &told.out), (Some(0), &vector(&product())));
+        assert_eq!(told.err, "powers:4: 6 of 6 key switches, finished\n");
+    }
     let told = bench.run(&format!("{RUN} --log - -o held.vec"));
     assert_eq!((told.text(), told.err.is_empty()), ("1\n2\n2\n4\n4\n8\n", false));
     let told = bench.piped("run - in.vec --strategy direct --keys all.txt -o out.vec", &map().write_map_file());
@@ -75,12 +77,12 @@ fn a_run_stops_after_n_switches() {
         assert_eq!(bench.text("held.vec"), "as it was", "{n}");
         assert_eq!(bench.text("log.txt").lines().count(), n);
     }
-    let told = bench.does(&format!("{RUN} -n 4 --state state.json"));
-    assert!(told.text().contains("4 of 6"));
+    let told = bench.run(&format!("{RUN} -n 4 --state state.json"));
+    assert!(told.out.is_empty() && told.err.contains("4 of 6"), "{told:?}");
     let state = bench.text("state.json");
     assert!(state.contains("\"finished\":false,\"log\":[1,2,2,4],"), "{state}");
-    let told = bench.does(&format!("{RUN} -n 2 --state state.json"));
-    assert!(told.text().contains("2 of 6"));
+    let told = bench.run(&format!("{RUN} -n 2 --state state.json"));
+    assert!(told.out.is_empty() && told.err.contains("2 of 6"), "{told:?}");
     // The third baby and the nodes are not made yet.
     assert!(bench.text("state.json").ends_with(",null],\"nodes\":[null,null,null]}\n"));
 }
