@@ -28,6 +28,11 @@ watch_proof() { # PID LOG
     done
 }
 
+# The tool, rust/target/release/sibukyaran, or below CARGO_TARGET_DIR.
+build_tool() {
+    cargo build --manifest-path rust/Cargo.toml --offline --locked --release --quiet -p sibukyaran-tool
+}
+
 # Proves the library and writes the archive, where its sources have changed.
 build_library() {
     local sources log

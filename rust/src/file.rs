@@ -1,6 +1,6 @@
 //! What keeps bytes that the library has refused from being a map file.
 
-use crate::refusal::{FileFault, MOST};
+use crate::refusal::{FileFault, is_outside};
 
 /// Word `at` of the bytes, four bytes each, least first.
 fn word(bytes: &[u8], at: usize) -> u32 {
@@ -25,7 +25,7 @@ pub(crate) fn fault(bytes: &[u8]) -> Option<FileFault> {
         return Some(fault);
     }
     let (slots, count) = (word(bytes, 0), word(bytes, 1) as usize);
-    if !(1..=MOST).contains(&(slots as usize)) {
+    if is_outside(slots as usize) {
         return Some(FileFault::Slots { slots });
     }
     let mut wanted = 8 + 8 * count as u128;

@@ -165,7 +165,7 @@ impl Job<'_> {
 
     /// The tree's levels, none but with powers of two.
     fn levels(&self, plan: &PlanWords) -> Result<Vec<GiantTreeLevel>, Refusal> {
-        let tree = self.layout.index()?.rotations.giant_tree(signed(plan.giants()))?;
+        let tree = self.layout.rotations().giant_tree(signed(plan.giants()))?;
         Ok(tree.map_or_else(Vec::new, |(_, levels)| levels))
     }
 

@@ -161,7 +161,7 @@ impl LinearTransformationLayout {
 
     /// How the plan's rotations are reached. With powers of two, the giant step is the width and the baby step is the
     /// greatest common divisor of the babies.
-    fn rotations(&self) -> BsgsRotations {
+    pub(crate) fn rotations(&self) -> BsgsRotations {
         let LinearTransformationStrategy::BsgsPowersOfTwo { giant_step } = self.strategy else {
             return BsgsRotations::PerRotation;
         };

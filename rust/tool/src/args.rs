@@ -3,6 +3,7 @@
 use std::str::FromStr;
 
 use crate::failure::Failure;
+use crate::files::PIPE;
 
 /// What a command takes and what it does.
 pub struct Command {
@@ -23,6 +24,9 @@ pub struct Command {
     /// Does it.
     pub run: fn(&Args) -> Result<(), Failure>,
 }
+
+/// The options that name a file to read; the words that are no options name one too, or are no `-`.
+const READ: [&str; 6] = ["--keys", "--matrices", "--terms", "--values", "--input", "--answer"];
 
 /// The words after a command's name.
 #[derive(Debug, Default)]
@@ -62,6 +66,10 @@ impl Args {
             } else {
                 return Err(usage(format!("there is no option {word}")));
             }
+        }
+        let read = args.options.iter().filter(|(name, _)| READ.contains(&&name[..])).map(|(_, value)| value);
+        if args.words.iter().chain(read).filter(|name| *name == PIPE).count() > 1 {
+            return Err(usage("one of the files can be a pipe".to_string()));
         }
         let (fewest, most) = command.words;
         match args.words.len() {

@@ -190,11 +190,16 @@ pub fn takes_bytes(name: &str) -> Result<(), Failure> {
     Ok(())
 }
 
-/// Writes bytes that are no text.
-pub fn write_bytes(name: Option<&str>, bytes: Vec<u8>) -> Result<(), Failure> {
-    let name = name.unwrap_or(PIPE);
-    takes_bytes(name)?;
+/// Writes one file.
+pub fn write_one(name: &str, bytes: Vec<u8>) -> Result<(), Failure> {
     let mut outputs = Outputs::default();
     outputs.add(name, bytes);
     outputs.write()
+}
+
+/// Writes one file of bytes that are no text.
+pub fn write_bytes(name: Option<&str>, bytes: Vec<u8>) -> Result<(), Failure> {
+    let name = name.unwrap_or(PIPE);
+    takes_bytes(name)?;
+    write_one(name, bytes)
 }

@@ -244,7 +244,7 @@ const SHOWN: usize = 16;
 
 /// What a map holds, as text.
 pub fn described(map: &Diagonals) -> String {
-    let values: usize = map.iter().map(|(_, values)| values.len()).sum();
+    let values = map.lent().values.len();
     let mut text = format!("{} slots, {} diagonals, {values} values\n", map.slots(), map.count());
     for (offset, values) in map.iter() {
         let first: Vec<String> = values.iter().take(SHOWN).map(u64::to_string).collect();

@@ -191,6 +191,9 @@ fn plan(args: &Args) -> Result<(), Failure> {
     let layout = layout(args)?;
     let plan = layout.index()?;
     let text = if args.has("--json") { format!("{}\n", plan_json(&layout, &plan)?) } else { told(&layout, &plan)? };
+    if !args.has("--picture") && args.option("--svg").is_none() {
+        return files::print_text(&text);
+    }
     let picture = picture(&layout, plan)?;
     let text = if args.has("--picture") { format!("{text}\n{}", picture.text()) } else { text };
     show(args, text, || picture.svg())
@@ -200,22 +203,12 @@ fn keys(args: &Args) -> Result<(), Failure> {
     let keys = key_list(&layout(args)?)?;
     let bytes =
         if args.has("--json") { format!("{}\n", Json::numbers(&keys)).into_bytes() } else { files::list_bytes(&keys) };
-    let mut outputs = Outputs::default();
-    outputs.add(args.option("-o").unwrap_or(files::PIPE), bytes);
-    outputs.write()
+    files::write_one(args.option("-o").unwrap_or(files::PIPE), bytes)
 }
 
-/// The residues of a list, each once, rising.
-fn residues(indexes: &[i64], slots: usize) -> Vec<usize> {
-    let mut residues: Vec<usize> = indexes.iter().map(|k| k.rem_euclid(slots as i64) as usize).collect();
-    residues.sort_unstable();
-    residues.dedup();
-    residues
-}
-
-/// The widths that the best one is chosen from, and what each costs.
+/// The widths that the best one is chosen from, and what each costs, of diagonals that rise below slots.
 fn widths(indexes: &[i64], slots: usize, best: usize) -> Result<Vec<(usize, usize)>, Failure> {
-    let gap = residues(indexes, slots).windows(2).map(|two| two[1] - two[0]).min().unwrap_or(slots);
+    let gap = indexes.windows(2).map(|two| (two[1] - two[0]) as usize).min().unwrap_or(slots);
     let all: Vec<usize> = (gap..slots).step_by(gap).collect();
     // One diagonal or none has one width, 1.
     let all = if all.is_empty() { vec![best] } else { all };
@@ -264,12 +257,14 @@ fn rows_text(rows: &[Row]) -> String {
 fn width(args: &Args) -> Result<(), Failure> {
     let (indexes, slots) = diagonals(args)?;
     let most = args.number("--most")?.unwrap_or(10);
+    // By Direct each diagonal is a giant: those of the list, each once, rising.
+    let indexes = LinearTransformationLayout { indexes, slots, strategy: Strategy::Direct }.index()?.giant_steps;
     let best = optimal_bsgs_giant_step(indexes.iter().copied(), slots)?;
     let costs = widths(&indexes, slots, best)?;
     let mut least = costs.clone();
     least.sort_by_key(|&(width, cost)| (cost, std::cmp::Reverse(width)));
     let rows = least.iter().take(most).map(|&width| row(&indexes, slots, width)).collect::<Result<Vec<_>, _>>()?;
-    let diagonals = residues(&indexes, slots).len();
+    let diagonals = indexes.len();
     let head = format!("{slots} slots, {diagonals} diagonals: best width {best}, of {}\n", costs.len());
     let text = if args.has("--json") { rows_json(&rows) } else { head + &rows_text(&rows) };
     let picture = CostPicture { title: format!("Cost by width: {slots} slots"), slots, diagonals, costs, best };

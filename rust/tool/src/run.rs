@@ -113,9 +113,6 @@ fn told(run: &KeyedRun, strategy: Strategy, json: bool) -> String {
 
 fn run(args: &Args) -> Result<(), Failure> {
     let [map, input] = [0, 1].map(|at| args.word(at).expect("the command has two words"));
-    if [Some(map), Some(input), args.option("--keys")].iter().filter(|&&name| name == Some(files::PIPE)).count() > 1 {
-        return Err(Failure::Usage("one of the files can be a pipe".to_string()));
-    }
     let (out, text) = (args.option("-o").unwrap_or(files::PIPE), args.has("--text"));
     if !text {
         files::takes_bytes(out)?;

@@ -3,7 +3,7 @@
 use std::env;
 use std::fs;
 use std::io;
-use std::path::{Path, PathBuf};
+use std::path::PathBuf;
 use std::process::{Command as Process, Output};
 
 use crate::args::{Args, Command};
@@ -124,9 +124,8 @@ fn week(args: &Args) -> Result<(), Failure> {
     let folder = args.option("--folder").unwrap_or("week");
     let week = Week::open(folder)?;
     print_text(&format!(
-        "One map from Monday to Friday: it averages a movement's beats over its positions. The files are in {}.\n\
-         Encryption is outside this library: what is shown is the arithmetic that the encrypted run would make.\n",
-        Path::new(folder).display()
+        "One map from Monday to Friday: it averages a movement's beats over its positions. The files are in {folder}.\n\
+         Encryption is outside this library: what is shown is the arithmetic that the encrypted run would make.\n"
     ))?;
     day("Monday", "The engineer writes the map: 16 movements of 8 slots, each slot sums its movement's 6 positions.")?;
     week.does("map terms average.terms --slots 128 --period 8 -o average.map")?;

@@ -171,6 +171,7 @@ fn a_diagonal_is_set() {
     bench.not_taken("map set e3.map 0 two.txt -o e3.map", "two.txt: it has 4 bytes, which is no multiple of 8");
     bench.misused("map set e3.map first one.vec -o e3.map", "INDEX: 'first' is no number");
     bench.misused("map set e3.map 1", "an argument is missing");
+    bench.misused("map set - 1 - -o e3.map", "one of the files can be a pipe");
 }
 
 #[test]
@@ -243,4 +244,5 @@ fn an_answer_is_checked() {
     let input = "the input has length 3: it must be 4";
     bench.refused("check e3.map --input short.txt --answer good.txt --text", 7, input);
     bench.misused("check e3.map --input in.txt", "--input and --answer go together");
+    bench.misused("check e3.map --input - --answer -", "one of the files can be a pipe");
 }
