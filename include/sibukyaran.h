@@ -16,9 +16,9 @@
 
 /* The version of this interface and of the Rust crate. */
 #define SIBUKYARAN_VERSION_MAJOR 0
-#define SIBUKYARAN_VERSION_MINOR 1
+#define SIBUKYARAN_VERSION_MINOR 2
 #define SIBUKYARAN_VERSION_PATCH 0
-#define SIBUKYARAN_VERSION "0.1.0"
+#define SIBUKYARAN_VERSION "0.2.0"
 
 #ifdef __cplusplus
 extern "C" {
@@ -317,9 +317,9 @@ struct sibukyaran_numbers sibukyaran_giant_key_switches(uint32_t rotations, size
 /* ---- Matrix maps. A matrix slot is d * d slots, d = 2^log_d, with the entries of a d by d matrix row after row. Each call
  * writes a map in front of pairs and values and answers the number of its pairs.
  *
- * 1: slots. 5: log_d is above 8, count is 0, or count * d * d does not divide slots. 6: the shift k exceeds d. 7: the public
- * matrices are not count * d * d words, or the lists of terms differ in length. 8: a term is out of range. 12: pairs or
- * values is too short.
+ * 1: slots. 5: log_d is above 8, count is 0, or count * d * d does not divide slots. 6: the shift k exceeds d, or 65536 for
+ * rotate_rows and rotate_cols, which take it modulo d. 7: the public matrices are not count * d * d words, or the lists of
+ * terms differ in length. 8: a term is out of range. 12: pairs or values is too short.
  *
  * The maps from sigma to rows_right, and per_matrix_map, are stored at the smallest period that holds them. They need room
  * for the map at period d * d; the values between the two totals are left in any state. The others need room for the
@@ -337,11 +337,11 @@ struct sibukyaran_numbers sibukyaran_tau(size_t slots, size_t log_d, uint32_t *p
 struct sibukyaran_numbers sibukyaran_transpose_matrices(size_t slots, size_t log_d, uint32_t *pairs, size_t pairs_len,
                                                         uint64_t *values, size_t values_len);
 
-/* JKLS psi^k: output (r, c) reads (r + k mod d, c). */
+/* JKLS psi^k: output (r, c) reads (r + k mod d, c). 6: k is above 65536. */
 struct sibukyaran_numbers sibukyaran_rotate_rows(size_t slots, size_t log_d, size_t k, uint32_t *pairs,
                                                  size_t pairs_len, uint64_t *values, size_t values_len);
 
-/* JKLS phi^k: output (r, c) reads (r, c + k mod d). */
+/* JKLS phi^k: output (r, c) reads (r, c + k mod d). 6: k is above 65536. */
 struct sibukyaran_numbers sibukyaran_rotate_cols(size_t slots, size_t log_d, size_t k, uint32_t *pairs,
                                                  size_t pairs_len, uint64_t *values, size_t values_len);
 

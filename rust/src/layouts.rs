@@ -22,7 +22,7 @@
 //! # Panics
 //!
 //! What the library refuses panics here, with "refused with", its number and the sentence of the [`Refusal`]: what poulpy
-//! asserts, and what document 01 leaves out, such as more than 65,536 slots or a shift above d.
+//! asserts, and what document 01 leaves out, such as more than 65,536 slots or half of a rotation by more than d.
 //!
 //! # What differs
 //!

@@ -446,10 +446,10 @@ library! {
     /// Output (r, c) reads (c, r).
     fn transpose_matrices(slots: usize, log_d: usize, pairs: &mut [u32], values: &mut [u64]) -> Numbers;
 
-    /// JKLS psi^k: output (r, c) reads (r + k mod d, c).
+    /// JKLS psi^k: output (r, c) reads (r + k mod d, c). 6: k is above 65,536.
     fn rotate_rows(slots: usize, log_d: usize, k: usize, pairs: &mut [u32], values: &mut [u64]) -> Numbers;
 
-    /// JKLS phi^k: output (r, c) reads (r, c + k mod d).
+    /// JKLS phi^k: output (r, c) reads (r, c + k mod d). 6: k is above 65,536.
     fn rotate_cols(slots: usize, log_d: usize, k: usize, pairs: &mut [u32], values: &mut [u64]) -> Numbers;
 
     /// Output (r, c) reads (r + k, c) where r + k < d, else 0.

@@ -12,6 +12,8 @@
 //! # Ok::<(), Refusal>(())
 //! ```
 
+use std::ops::RangeInclusive;
+
 use crate::diagonals::{Diagonals, Terms};
 use crate::lent::{self, Numbers};
 use crate::refusal::{MOST, Refusal, unexpected};
@@ -27,12 +29,15 @@ fn room(log_d: usize, period: impl FnOnce(usize) -> usize) -> (usize, usize) {
     side(log_d).map_or((0, 0), |d| (2 * d - 1, (2 * d - 1) * period(d)))
 }
 
-/// What a number of the library is about: `shifts` is the range of k.
-fn refused(number: u32, slots: usize, log_d: usize, count: usize, shift: Option<(usize, usize, usize)>) -> Refusal {
+/// A shift and its range.
+type Shift = (usize, RangeInclusive<usize>);
+
+/// What a number of the library is about.
+fn refused(number: u32, slots: usize, log_d: usize, count: usize, shift: Option<Shift>) -> Refusal {
     match (number, shift) {
         (1, _) => Refusal::of_slots(slots),
         (5, _) => Refusal::Matrices { log_d, count, slots: Some(slots) },
-        (6, Some((k, least, most))) => Refusal::Shift { k, least, most },
+        (6, Some((k, range))) => Refusal::Shift { k, least: *range.start(), most: *range.end() },
         _ => unexpected(number),
     }
 }
@@ -67,15 +72,16 @@ plain_maps! {
     first_col is first_col;
 }
 
-/// The maps with a shift k, from the least to d less so much.
+/// The maps with a shift k, and its range by d.
 macro_rules! shift_maps {
-    ($($(#[$doc:meta])* $name:ident from $least:literal to d - $less:literal;)*) => {
+    ($($(#[$doc:meta])* $name:ident takes $range:expr;)*) => {
         $(
             $(#[$doc])*
             /// Refused with 1, 5, 6.
             pub fn $name(slots: usize, log_d: usize, k: usize) -> Result<Diagonals, Refusal> {
                 let (count, values) = room(log_d, |d| d * d);
-                let shift = side(log_d).map(|d| (k, $least, d - $less));
+                let range: fn(usize) -> RangeInclusive<usize> = $range;
+                let shift = side(log_d).map(|d| (k, range(d)));
                 Diagonals::built(slots, count, values, |p, v| lent::$name(slots, log_d, k, p, v))
                     .map_err(|number| refused(number, slots, log_d, 1, shift))
             }
@@ -84,24 +90,24 @@ macro_rules! shift_maps {
 }
 
 shift_maps! {
-    /// JKLS psi^k: output (r, c) reads (r + k mod d, c).
-    rotate_rows from 0 to d - 0;
-    /// JKLS phi^k: output (r, c) reads (r, c + k mod d).
-    rotate_cols from 0 to d - 0;
+    /// JKLS psi^k: output (r, c) reads (r + k mod d, c), for k to 65,536.
+    rotate_rows takes |_| 0..=MOST;
+    /// JKLS phi^k: output (r, c) reads (r, c + k mod d), for k to 65,536.
+    rotate_cols takes |_| 0..=MOST;
     /// Output (r, c) reads (r + k, c) where r + k < d, else 0.
-    rows_upper from 0 to d - 0;
+    rows_upper takes |d| 0..=d;
     /// Output (r, c) reads (r + k - d, c) where r + k >= d, else 0.
-    rows_lower from 0 to d - 0;
+    rows_lower takes |d| 0..=d;
     /// Output (r, c) reads (r, c + k) where c + k < d, else 0.
-    cols_left from 0 to d - 0;
+    cols_left takes |d| 0..=d;
     /// Output (r, c) reads (r, c + k - d) where c + k >= d, else 0.
-    cols_right from 0 to d - 0;
+    cols_right takes |d| 0..=d;
     /// Output (r, c) reads (r + k mod d, c) where c + k < d, else 0.
-    rows_left from 0 to d - 0;
+    rows_left takes |d| 0..=d;
     /// Output (r, c) reads (r + k mod d, c) where c + k >= d, else 0.
-    rows_right from 0 to d - 0;
+    rows_right takes |d| 0..=d;
     /// rotate_rows on an input that repeats every d·d slots: one diagonal at k·d, for k from 1 to d - 1.
-    rotate_rows_rep from 1 to d - 1;
+    rotate_rows_rep takes |d| 1..=d - 1;
 }
 
 /// Public matrices b(s, r, c) row after row; none where there are too many for any slots, so that nothing is laid out for

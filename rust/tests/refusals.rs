@@ -123,6 +123,11 @@ fn refusal_5_is_of_matrices() {
 fn refusal_6_is_of_a_shift() {
     let of = |k, least, most| Refusal::Shift { k, least, most };
     refused(maps::rows_lower(4, 1, 3), 6, of(3, 0, 2), "k is 3: the shift must be from 0 to 2");
+    for rotate in [maps::rotate_rows, maps::rotate_cols] {
+        refused(rotate(4, 1, 65_537), 6, of(65_537, 0, 65_536), "k is 65537: the shift must be from 0 to 65536");
+        assert_eq!(rotate(4, 1, 65_536), rotate(4, 1, 0));
+        assert_eq!(rotate(4, 1, 65_535), rotate(4, 1, 1));
+    }
     refused(maps::rotate_rows_rep(16, 2, 4), 6, of(4, 1, 3), "k is 4: the shift must be from 1 to 3");
     refused(maps::rotate_rows_rep(1, 0, 1), 6, of(1, 1, 0), "k is 1: there is no shift of matrices of one row");
 }
@@ -339,7 +344,7 @@ fn matrix_maps_at_the_limits() {
             for map in plain {
                 tried(map(slots, log_d), &[1, 5]);
             }
-            for (map, k) in shifts.clone().flat_map(|map| [1, 257, usize::MAX].map(|k| (map, k))) {
+            for (map, k) in shifts.clone().flat_map(|map| [1, 257, 65_536, 65_537, usize::MAX].map(|k| (map, k))) {
                 tried(map(slots, log_d, k), &[1, 5, 6]);
             }
             for far in [0, 1, usize::MAX] {

@@ -24,10 +24,11 @@ use Rattle.diagonals.specs.Laws.Terms.{rows-more, reached-row, marks-none, mark
 use Rattle.maps.specs.declared.rules.Rule.{Rule}
 use Rattle.maps.specs.declared.rules.Rule.the-variants.{Sigma, Tau, Transpose, RotateRows, RotateCols, RowsUpper, RowsLower, ColsLeft, ColsRight, RowsLeft, RowsRight}
 use Rattle.maps.specs.Entries.{Entry, place}
-use Rattle.maps.specs.Readings.{reading, reads, readTerms, ruleTerms, shiftOf}
+use Rattle.maps.specs.Readings.{reading, reads, readTerms, ruleTerms, shiftOf, shiftLimit, madeShift}
 use Rattle.maps.specs.Steps.Tiles.{TilesJudged}
-use Rattle.maps.specs.Laws.Tiling.{tiling, tiles-first, tiles-later}
-use Rattle.maps.specs.Steps.Readings.{Within, EntryIs, ReadIs, Ruled, RuleSumming, ruleRefusals, RuleJudged}
+use Rattle.maps.specs.Laws.Tiling.{side-pos, tiling, tiles-first, tiles-later}
+use Rattle.maps.specs.Laws.Readings.{made-low}
+use Rattle.maps.specs.Steps.Readings.{Within, EntryIs, ReadIs, Ruled, Makes, RuleSumming, ruleRefusals, RuleJudged}
 
 -- ---- below 2d
 
@@ -64,9 +65,13 @@ reading-same : (b : Bool) (r c r₁ c₁ : ℕ) → (b ≡ true → r ≡ r₁) 
 reading-same true r c r₁ c₁ f g = rw (f refl, g refl)
 reading-same false r c r₁ c₁ f g = refl
 
+-- the shift that a rule makes
+pub makes : {slots d : ℕ} {rule : Rule} {k : ℕ} → Ruled slots d rule → k ≡ madeShift rule d → Makes rule d k
+makes a e = record { is = e; low = rw e (a .shift-low) }
+
 -- a row or a column and the shift
-shifted-low : {rule rule₁ : Rule} (d : ℕ) {v : ℕ} → v < d → rule ≡ rule₁ → shiftOf rule ≤ d → v + shiftOf rule₁ < 2 * d
-shifted-low {rule} {rule₁} d {v} m h l = let g : shiftOf rule₁ ≤ d = subst (λ z. shiftOf z ≤ d) h l in omega (arith, g, m)
+shift-fits : {rule rule₁ : Rule} {d k v : ℕ} → Makes rule d k → rule ≡ rule₁ → v < d → v + madeShift rule₁ d < 2 * d
+shift-fits {rule} {rule₁} {d} u h m = let g : madeShift rule₁ d ≤ d = subst (λ z. madeShift z d ≤ d) h (rw (u .is) at (u .low)) in omega (arith, g, m)
 
 -- the entry of each rule, by remainders
 pub transpose-reads : {rule : Rule} {d r c j : ℕ} {there : Bool} → rule ≡ Transpose → EntryIs d c r true there j → ReadIs rule d r c there j
@@ -82,38 +87,38 @@ module _ {rule : Rule} {d r c x j : ℕ} {there : Bool} (w : Within d r c) where
   unfolding reads
   tau-reads h f a = read-as (rw (h, f)) a
 
-  module _ {n k : ℕ} (e : k ≡ shiftOf rule) where
+  module _ {n k : ℕ} (u : Makes rule d k) where
     pub rows-reads : rule ≡ RotateRows n → x ≡ (r + k) % d → EntryIs d x c true there j → ReadIs rule d r c there j
     unfolding reads
-    rows-reads h f a = read-as (rw (f, e, h)) a
+    rows-reads h f a = read-as (rw (f, u .is, h)) a
 
     pub cols-reads : rule ≡ RotateCols n → x ≡ (c + k) % d → EntryIs d r x true there j → ReadIs rule d r c there j
     unfolding reads
-    cols-reads h f a = read-as (rw (f, e, h)) a
+    cols-reads h f a = read-as (rw (f, u .is, h)) a
 
     pub left-reads : rule ≡ RowsLeft n → x ≡ (r + k) % d → EntryIs d x c (ltb (c + k) d) there j → ReadIs rule d r c there j
     unfolding reads
-    left-reads h f a = read-as (rw (f, e, h)) a
+    left-reads h f a = read-as (rw (f, u .is, h)) a
 
     pub right-reads : rule ≡ RowsRight n → x ≡ (r + k) % d → EntryIs d x c (leb d (c + k)) there j → ReadIs rule d r c there j
     unfolding reads
-    right-reads h f a = read-as (rw (f, e, h)) a
+    right-reads h f a = read-as (rw (f, u .is, h)) a
 
     pub upper-reads : rule ≡ RowsUpper n → x ≡ (r + k) % d → EntryIs d x c (ltb (r + k) d) there j → ReadIs rule d r c there j
     unfolding reads
-    upper-reads h f a = read-as (rw (f, e, h) (reading-same (ltb (r + n) d) _ _ _ _ (λ q. fold-low _ _ (ltb-true _ _ q)) (λ q. refl))) a
+    upper-reads h f a = read-as (rw (f, u .is, h) (reading-same (ltb (r + n) d) _ _ _ _ (λ q. fold-low _ _ (ltb-true _ _ q)) (λ q. refl))) a
 
     pub cols-left-reads : rule ≡ ColsLeft n → x ≡ (c + k) % d → EntryIs d r x (ltb (c + k) d) there j → ReadIs rule d r c there j
     unfolding reads
-    cols-left-reads h f a = read-as (rw (f, e, h) (reading-same (ltb (c + n) d) _ _ _ _ (λ q. refl) (λ q. fold-low _ _ (ltb-true _ _ q)))) a
+    cols-left-reads h f a = read-as (rw (f, u .is, h) (reading-same (ltb (c + n) d) _ _ _ _ (λ q. refl) (λ q. fold-low _ _ (ltb-true _ _ q)))) a
 
-    pub lower-reads : rule ≡ RowsLower n → x ≡ (r + k) % d → shiftOf rule ≤ d → EntryIs d x c (leb d (r + k)) there j → ReadIs rule d r c there j
+    pub lower-reads : rule ≡ RowsLower n → x ≡ (r + k) % d → EntryIs d x c (leb d (r + k)) there j → ReadIs rule d r c there j
     unfolding reads
-    lower-reads h f l a = read-as (rw (f, e, h) (reading-same (leb d (r + n)) _ _ _ _ (λ q. fold-high _ _ (leb-true _ _ q) (shifted-low {rule₁ = RowsLower n} d (w .row-low) h l)) (λ q. refl))) a
+    lower-reads h f a = read-as (rw (f, u .is, h) (reading-same (leb d (r + n)) _ _ _ _ (λ q. fold-high _ _ (leb-true _ _ q) (shift-fits {rule₁ = RowsLower n} u h (w .row-low))) (λ q. refl))) a
 
-    pub cols-right-reads : rule ≡ ColsRight n → x ≡ (c + k) % d → shiftOf rule ≤ d → EntryIs d r x (leb d (c + k)) there j → ReadIs rule d r c there j
+    pub cols-right-reads : rule ≡ ColsRight n → x ≡ (c + k) % d → EntryIs d r x (leb d (c + k)) there j → ReadIs rule d r c there j
     unfolding reads
-    cols-right-reads h f l a = read-as (rw (f, e, h) (reading-same (leb d (c + n)) _ _ _ _ (λ q. refl) (λ q. fold-high _ _ (leb-true _ _ q) (shifted-low {rule₁ = ColsRight n} d (w .col-low) h l)))) a
+    cols-right-reads h f a = read-as (rw (f, u .is, h) (reading-same (leb d (c + n)) _ _ _ _ (λ q. refl) (λ q. fold-high _ _ (leb-true _ _ q) (shift-fits {rule₁ = ColsRight n} u h (w .col-low))))) a
 
 -- ---- terms
 
@@ -203,22 +208,22 @@ adding-done {slots} {d} {rule} {old} {values} {t} s h =
 pub tiles-refuse : {slots logD r : ℕ} (rule : Rule) → TilesJudged slots logD 1 r → (r ≡ 0 → ⊥) → RuleJudged slots logD rule r
 tiles-refuse {slots} {logD} rule t n =
     record {
-      answer = tiles-first t ((ltb (2 ^ logD) (shiftOf rule), 6) ∷ []) n;
+      answer = tiles-first t ((ltb (shiftLimit rule (2 ^ logD)) (shiftOf rule), 6) ∷ []) n;
       low = λ h. absurd (n h);
       ruled = λ h. absurd (n h);
     }
 
-module _ {slots logD r d k : ℕ} (rule : Rule) (t : TilesJudged slots logD 1 r) (z : r ≡ 0) (s : d ≡ 2 ^ logD) (e : k ≡ shiftOf rule) where
-  past-tiles : firstOf (ruleRefusals slots logD rule) ≡ pick (ltb (2 ^ logD) (shiftOf rule)) 6 0
-  past-tiles = tiles-later t ((ltb (2 ^ logD) (shiftOf rule), 6) ∷ []) z
+module _ {slots logD r d most k : ℕ} (rule : Rule) (t : TilesJudged slots logD 1 r) (z : r ≡ 0) (s : d ≡ 2 ^ logD) (m : most ≡ shiftLimit rule d) (e : k ≡ shiftOf rule) where
+  past-tiles : firstOf (ruleRefusals slots logD rule) ≡ pick (ltb (shiftLimit rule (2 ^ logD)) (shiftOf rule)) 6 0
+  past-tiles = tiles-later t ((ltb (shiftLimit rule (2 ^ logD)) (shiftOf rule), 6) ∷ []) z
 
-  pub shift-refuses : d < k → RuleJudged slots logD rule 6
-  shift-refuses l = record { answer = sym (past-tiles ∙ rw (← s, ← e, lt-ltb d k l)); low = λ h. absurd (suc-ne-zero 5 h); ruled = λ h. absurd (suc-ne-zero 5 h) }
+  pub shift-refuses : most < k → RuleJudged slots logD rule 6
+  shift-refuses l = record { answer = sym (past-tiles ∙ rw (← s, ← m, ← e, lt-ltb most k l)); low = λ h. absurd (suc-ne-zero 5 h); ruled = λ h. absurd (suc-ne-zero 5 h) }
 
-  pub rule-accepted : k ≤ d → RuleJudged slots logD rule 0
+  pub rule-accepted : k ≤ most → RuleJudged slots logD rule 0
   rule-accepted l =
       record {
-        answer = sym (past-tiles ∙ rw (← s, ← e, le-ltb d k l));
+        answer = sym (past-tiles ∙ rw (← s, ← m, ← e, le-ltb most k l));
         low = λ _. t .tiles z .log-low;
-        ruled = λ _. record { tiles = tiling (t .tiles z); shift-low = rw (← s, ← e) l };
+        ruled = λ _. record { tiles = tiling (t .tiles z); shift-low = made-low rule (2 ^ logD) (side-pos logD) (rw (← s, ← m, ← e) l) };
       }

@@ -19,7 +19,7 @@ use Rattle.diagonals.specs.Shrinking.{shrunk}
 use Rattle.diagonals.specs.Calls.{mapRoom, MapWritten}
 use Rattle.maps.specs.declared.rules.Rule.{Rule}
 use Rattle.maps.specs.declared.rules.Product.{Product}
-use Rattle.maps.specs.Readings.{wholeMap, shiftOf, rotateRowsRep}
+use Rattle.maps.specs.Readings.{wholeMap, shiftOf, shiftLimit, rotateRowsRep}
 use Rattle.maps.specs.Sums.{productMap, leftMulRep}
 use Rattle.maps.specs.Values.{skewedValues, slotProduct}
 
@@ -48,7 +48,7 @@ abbrev pub ruleRefusal : ℕ → ℕ → Rule → List ℕ → List ℕ → ℕ
 ruleRefusal slots logD rule pairs values =
     firstOf
     (tileRefusals slots logD 1
-    ++ (ltb (2 ^ logD) (shiftOf rule), 6)
+    ++ (ltb (shiftLimit rule (2 ^ logD)) (shiftOf rule), 6)
     ∷ mapRoom (wholeMap modulus slots (2 ^ logD) rule) pairs values)
 
 abbrev pub RuleWritten : ℕ → ℕ → Rule → List ℕ → List ℕ → List ℕ → List ℕ → Answer → Type 0

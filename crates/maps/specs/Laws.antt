@@ -15,3 +15,4 @@ pub mod SharedTerms
 pub mod Offsets
 pub mod Counts
 pub mod Leading
+pub mod Shifts

@@ -5,5 +5,6 @@ pub mod Sums
 pub mod Values
 pub mod Offsets
 pub mod Calls
+pub mod Shifts
 pub mod Steps
 pub mod Laws

@@ -1,7 +1,7 @@
 -- Document 01, "Matrix maps": the offsets of each matrix map, by its JKLS formula, as indexes modulo slots, and how many
 -- diagonals it has.
 -- Assumes nothing.
-use Prim.Native.Nat.{ℕ, _+_, _*_, _-_}
+use Prim.Native.Nat.{ℕ, _+_, _*_, _-_, _%_}
 use mathlib.Core.Path.{_≡_}
 use mathlib.Core.Bool.{Bool, cond}
 use mathlib.Core.List.{List, [], _∷_, _++_}
@@ -38,8 +38,8 @@ unfoldable pub ruleIndexes : Rule → ℕ → List ℤ
 ruleIndexes Sigma d = around d 1
 ruleIndexes Tau d = around d d
 ruleIndexes Transpose d = around d (d - 1)
-ruleIndexes (RotateRows k) d = turned d d k
-ruleIndexes (RotateCols k) d = turned d 1 k
+ruleIndexes (RotateRows k) d = turned d d (k % d)
+ruleIndexes (RotateCols k) d = turned d 1 (k % d)
 ruleIndexes (RowsUpper k) d = kept d d k
 ruleIndexes (RowsLower k) d = wrapped d d k
 ruleIndexes (ColsLeft k) d = kept d 1 k
@@ -78,8 +78,8 @@ unfoldable pub ruleCount : ℕ → ℕ → Rule → ℕ
 ruleCount slots d Sigma = 2 * d - 1
 ruleCount slots d Tau = rowsCount slots d
 ruleCount slots d Transpose = 2 * d - 1
-ruleCount slots d (RotateRows k) = turnedCount slots d k
-ruleCount slots d (RotateCols k) = keptCount d k + wrappedCount k
+ruleCount slots d (RotateRows k) = turnedCount slots d (k % d)
+ruleCount slots d (RotateCols k) = keptCount d (k % d) + wrappedCount (k % d)
 ruleCount slots d (RowsUpper k) = keptCount d k
 ruleCount slots d (RowsLower k) = wrappedCount k
 ruleCount slots d (ColsLeft k) = keptCount d k

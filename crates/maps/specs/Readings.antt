@@ -21,13 +21,13 @@ abbrev pub reading : Bool → ℕ → ℕ → List Entry
 reading true r c = record { row = r; col = c } ∷ []
 reading false r c = []
 
--- where output (r, c) reads: one entry or none
+-- where output (r, c) reads: one entry or none. The two rotations take their shift modulo d (document 02, A2)
 unfoldable pub reads : Rule → ℕ → ℕ → ℕ → List Entry
 reads Sigma d r c = reading true r ((r + c) % d)
 reads Tau d r c = reading true ((r + c) % d) c
 reads Transpose d r c = reading true c r
-reads (RotateRows k) d r c = reading true ((r + k) % d) c
-reads (RotateCols k) d r c = reading true r ((c + k) % d)
+reads (RotateRows k) d r c = reading true ((r + k % d) % d) c
+reads (RotateCols k) d r c = reading true r ((c + k % d) % d)
 reads (RowsUpper k) d r c = reading (ltb (r + k) d) (r + k) c
 reads (RowsLower k) d r c = reading (leb d (r + k)) (r + k - d) c
 reads (ColsLeft k) d r c = reading (ltb (c + k) d) r (c + k)
@@ -35,9 +35,12 @@ reads (ColsRight k) d r c = reading (leb d (c + k)) r (c + k - d)
 reads (RowsLeft k) d r c = reading (ltb (c + k) d) ((r + k) % d) c
 reads (RowsRight k) d r c = reading (leb d (c + k)) ((r + k) % d) c
 
--- the terms of output t of a matrix slot, each of weight 1
+-- the terms of output t of a matrix slot whose outputs read so, each of weight 1
+abbrev pub termsBy : (ℕ → ℕ → List Entry) → ℕ → ℕ → List Term
+termsBy read d t = map (λ e. record { i = t; j = place d e; w = 1 }) (read (entryOf d t .row) (entryOf d t .col))
+
 abbrev pub readTerms : Rule → ℕ → ℕ → List Term
-readTerms rule d t = map (λ e. record { i = t; j = place d e; w = 1 }) (reads rule d (entryOf d t .row) (entryOf d t .col))
+readTerms rule d t = termsBy (reads rule d) d t
 
 -- those of all outputs
 abbrev pub ruleTerms : Rule → ℕ → List Term
@@ -68,6 +71,28 @@ shiftOf (ColsLeft k) = k
 shiftOf (ColsRight k) = k
 shiftOf (RowsLeft k) = k
 shiftOf (RowsRight k) = k
+
+-- the two rotations go round their matrix
+abbrev pub goesRound : Rule → Bool
+goesRound Sigma = false
+goesRound Tau = false
+goesRound Transpose = false
+goesRound (RotateRows k) = true
+goesRound (RotateCols k) = true
+goesRound (RowsUpper k) = false
+goesRound (RowsLower k) = false
+goesRound (ColsLeft k) = false
+goesRound (ColsRight k) = false
+goesRound (RowsLeft k) = false
+goesRound (RowsRight k) = false
+
+-- the largest shift that a rule takes, of d rows and columns: refusal 6 (document 02, A2)
+abbrev pub shiftLimit : Rule → ℕ → ℕ
+shiftLimit rule d = cond (goesRound rule) 65536 d
+
+-- the shift that it makes
+abbrev pub madeShift : Rule → ℕ → ℕ
+madeShift rule d = cond (goesRound rule) (shiftOf rule % d) (shiftOf rule)
 
 -- ---- on replicated inputs
 

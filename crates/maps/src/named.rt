@@ -25,7 +25,7 @@ pub fn transpose(slots: usize, log_d: usize, pairs: &mut [u32], values: &mut [u6
     rule_map(Rule::Transpose, slots, log_d, pairs, values)
 }
 
-// JKLS psi^k: output (r, c) reads (r + k mod d, c).
+// JKLS psi^k: output (r, c) reads (r + k mod d, c), for k up to 65,536.
 pub fn rotate_rows(
     slots: usize,
     log_d: usize,
@@ -38,7 +38,7 @@ pub fn rotate_rows(
     rule_map(Rule::RotateRows { k: k }, slots, log_d, pairs, values)
 }
 
-// JKLS phi^k: output (r, c) reads (r, c + k mod d).
+// JKLS phi^k: output (r, c) reads (r, c + k mod d), for k up to 65,536.
 pub fn rotate_cols(
     slots: usize,
     log_d: usize,

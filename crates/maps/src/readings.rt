@@ -5,9 +5,9 @@ ghost use Rattle.ring.specs.Slots.{modulus};
 ghost use Rattle.ring.specs.Marks.{Unmarked};
 ghost use Rattle.diagonals.specs.Calls.{MapWritten};
 ghost use Rattle.diagonals.specs.Building.{MarksOf, SumsOf};
-ghost use Rattle.maps.specs.Readings.{shiftOf, ruleTerms, wholeMap};
+ghost use Rattle.maps.specs.Readings.{shiftOf, goesRound, shiftLimit, madeShift, ruleTerms, wholeMap};
 ghost use Rattle.maps.specs.Calls.{ruleRefusal, RuleWritten};
-ghost use Rattle.maps.specs.Steps.Readings.{Within, EntryIs, ReadIs, Ruled, RuleSumming, RuleJudged};
+ghost use Rattle.maps.specs.Steps.Readings.{Within, EntryIs, ReadIs, Ruled, Makes, RuleSumming, RuleJudged};
 use crate::rules::Rule;
 
 // x mod d for x below 2d.
@@ -55,12 +55,53 @@ fn shift_of(rule: Rule) -> usize
     }
 }
 
-fn read_at(rule: Rule, d: usize, r: usize, c: usize) -> Reading
-    requires { ⌜ Within d r c ⌝ }
-    requires { ⌜ shiftOf rule ≤ d ⌝ }
-    ensures { λ q. ⌜ ReadIs rule d r c (q .there) (q .j) ⌝ }
+// Whether a rule takes its shift modulo d.
+fn goes_round(rule: Rule) -> bool
+    ensures { λ r. ⌜ r ≡ goesRound rule ⌝ }
+{
+    match rule {
+        Rule::Sigma => false,
+        Rule::Tau => false,
+        Rule::Transpose => false,
+        Rule::RotateRows { k: _ } => true,
+        Rule::RotateCols { k: _ } => true,
+        Rule::RowsUpper { k: _ } => false,
+        Rule::RowsLower { k: _ } => false,
+        Rule::ColsLeft { k: _ } => false,
+        Rule::ColsRight { k: _ } => false,
+        Rule::RowsLeft { k: _ } => false,
+        Rule::RowsRight { k: _ } => false,
+    }
+}
+
+// The largest shift that a rule takes.
+fn shift_limit(rule: Rule, d: usize) -> usize
+    ensures { λ r. ⌜ r ≡ shiftLimit rule d ⌝ }
+{
+    if goes_round(rule) {
+        return 65536;
+    }
+    d
+}
+
+// The shift that a rule makes.
+fn made_shift(rule: Rule, d: usize) -> usize
+    requires { ⌜ 1 ≤ d ⌝ }
+    ensures { λ r. ⌜ r ≡ madeShift rule d ⌝ }
 {
     let k = shift_of(rule);
+    if goes_round(rule) {
+        return k % d;
+    }
+    k
+}
+
+// What output (r, c) reads; k is the shift that the rule makes.
+fn read_at(rule: Rule, k: usize, d: usize, r: usize, c: usize) -> Reading
+    requires { ⌜ Within d r c ⌝ }
+    requires { ⌜ Makes rule d k ⌝ }
+    ensures { λ q. ⌜ ReadIs rule d r c (q .there) (q .j) ⌝ }
+{
     let row = folded(r + k, d);
     let col = folded(c + k, d);
     let both = folded(r + c, d);
@@ -84,11 +125,12 @@ fn mark_reads(rule: Rule, slots: usize, d: usize, seen: &mut [bool; 65536])
     requires { ⌜ Unmarked (now seen) ⌝ }
     ensures { λ _. ⌜ MarksOf slots (ruleTerms rule d) (now (seen .exit)) ⌝ }
 {
+    let k = made_shift(rule, d);
     for t in 0..d * d {
-        let read = read_at(rule, d, t / d, t % d);
-        let k = diagonals::offset_of(slots, t, read.j);
+        let read = read_at(rule, k, d, t / d, t % d);
+        let offset = diagonals::offset_of(slots, t, read.j);
         if read.there {
-            seen[k] = true;
+            seen[offset] = true;
         }
     }
 }
@@ -97,12 +139,13 @@ fn add_reads(rule: Rule, slots: usize, d: usize, places: &[u32; 65536], values: 
     requires { ⌜ RuleSumming slots d rule (now places) (now values) ⌝ }
     ensures { λ _. ⌜ SumsOf modulus slots (d * d) (ruleTerms rule d) (ruleTerms rule d) (now (values .entry)) (now (values .exit)) ⌝ }
 {
+    let k = made_shift(rule, d);
     let period = d * d;
     for t in 0..period {
-        let read = read_at(rule, d, t / d, t % d);
-        let k = diagonals::offset_of(slots, t, read.j);
+        let read = read_at(rule, k, d, t / d, t % d);
+        let offset = diagonals::offset_of(slots, t, read.j);
         if read.there {
-            let x = ring::wide(places[k]) * period + t;
+            let x = ring::wide(places[offset]) * period + t;
             values[x] = std::num::wrapping_add_u64(values[x], 1);
         }
     }
@@ -116,7 +159,7 @@ fn rule_refusal(rule: Rule, slots: usize, log_d: usize) -> u32
     if code != 0 {
         return code;
     }
-    if crate::tiles::side(log_d) < shift_of(rule) {
+    if shift_limit(rule, crate::tiles::side(log_d)) < shift_of(rule) {
         return 6;
     }
     0

@@ -16,10 +16,18 @@ use crate::tally::{Cases, Tally};
 
 type F = Wrapping<u64>;
 
-/// A map that reads one entry or none; one that does not shift leaves k alone.
+/// What a map does with the shift k: it leaves k alone, takes it to d, or takes it to 65,536 and goes round (document 02, A2).
+#[derive(Clone, Copy, PartialEq)]
+pub enum Shift {
+    None,
+    Half,
+    Round,
+}
+
+/// A map that reads one entry or none.
 pub struct Rule {
     pub name: &'static str,
-    pub shifts: bool,
+    pub shift: Shift,
     rust: fn(usize, usize, usize) -> Words,
     ours: fn(usize, usize, usize, &mut [u32], &mut [u64]) -> Numbers,
 }
@@ -27,30 +35,30 @@ pub struct Rule {
 pub const RULES: [Rule; 11] = [
     Rule {
         name: "sigma",
-        shifts: false,
+        shift: Shift::None,
         rust: |slots, log_d, _| rust::sigma::<F>(slots, log_d),
         ours: |slots, log_d, _, p, v| ours::sigma(slots, log_d, p, v),
     },
     Rule {
         name: "tau",
-        shifts: false,
+        shift: Shift::None,
         rust: |slots, log_d, _| rust::tau::<F>(slots, log_d),
         ours: |slots, log_d, _, p, v| ours::tau(slots, log_d, p, v),
     },
     Rule {
         name: "transpose",
-        shifts: false,
+        shift: Shift::None,
         rust: |slots, log_d, _| rust::transpose::<F>(slots, log_d),
         ours: |slots, log_d, _, p, v| ours::transpose_matrices(slots, log_d, p, v),
     },
-    Rule { name: "rotate_rows", shifts: true, rust: rust::rotate_rows::<F>, ours: ours::rotate_rows },
-    Rule { name: "rotate_cols", shifts: true, rust: rust::rotate_cols::<F>, ours: ours::rotate_cols },
-    Rule { name: "rows_upper", shifts: true, rust: rust::rows_upper::<F>, ours: ours::rows_upper },
-    Rule { name: "rows_lower", shifts: true, rust: rust::rows_lower::<F>, ours: ours::rows_lower },
-    Rule { name: "cols_left", shifts: true, rust: rust::cols_left::<F>, ours: ours::cols_left },
-    Rule { name: "cols_right", shifts: true, rust: rust::cols_right::<F>, ours: ours::cols_right },
-    Rule { name: "rows_left", shifts: true, rust: rust::rows_left::<F>, ours: ours::rows_left },
-    Rule { name: "rows_right", shifts: true, rust: rust::rows_right::<F>, ours: ours::rows_right },
+    Rule { name: "rotate_rows", shift: Shift::Round, rust: rust::rotate_rows::<F>, ours: ours::rotate_rows },
+    Rule { name: "rotate_cols", shift: Shift::Round, rust: rust::rotate_cols::<F>, ours: ours::rotate_cols },
+    Rule { name: "rows_upper", shift: Shift::Half, rust: rust::rows_upper::<F>, ours: ours::rows_upper },
+    Rule { name: "rows_lower", shift: Shift::Half, rust: rust::rows_lower::<F>, ours: ours::rows_lower },
+    Rule { name: "cols_left", shift: Shift::Half, rust: rust::cols_left::<F>, ours: ours::cols_left },
+    Rule { name: "cols_right", shift: Shift::Half, rust: rust::cols_right::<F>, ours: ours::cols_right },
+    Rule { name: "rows_left", shift: Shift::Half, rust: rust::rows_left::<F>, ours: ours::rows_left },
+    Rule { name: "rows_right", shift: Shift::Half, rust: rust::rows_right::<F>, ours: ours::rows_right },
 ];
 
 /// The products by public matrices: their names, and ours.
@@ -76,10 +84,19 @@ pub fn tiled(slots: usize, log_d: usize, count: usize) -> Result<(), u32> {
     if tiles { Ok(()) } else { Err(5) }
 }
 
-pub fn right_rule(rule: usize, slots: usize, log_d: usize, k: usize) -> Result<Words, u32> {
+/// Refusals 1, 5 and 6.
+fn ruled(rule: usize, slots: usize, log_d: usize, k: usize) -> Result<(), u32> {
     tiled(slots, log_d, 1)?;
-    let Rule { shifts, rust, .. } = RULES[rule];
-    if shifts && k > 1 << log_d { Err(6) } else { Ok(rust(slots, log_d, k)) }
+    let most = match RULES[rule].shift {
+        Shift::None => usize::MAX,
+        Shift::Half => 1 << log_d,
+        Shift::Round => MOST,
+    };
+    if k > most { Err(6) } else { Ok(()) }
+}
+
+pub fn right_rule(rule: usize, slots: usize, log_d: usize, k: usize) -> Result<Words, u32> {
+    ruled(rule, slots, log_d, k).map(|()| (RULES[rule].rust)(slots, log_d, k))
 }
 
 fn product(p: usize, slots: usize, log_d: usize, count: usize, b: &[u64]) -> Words {
@@ -317,18 +334,28 @@ fn any_terms(random: &mut Random, n: usize, is: usize, js: usize) -> Terms {
 
 pub fn compare(tally: &mut Tally) {
     let mut random = Random::new(16);
-    tally.run("matrix maps that read one entry: log_d 0 to 3, every shift, each room", |cases| {
+    tally.run("matrix maps that read one entry: log_d 0 to 3, every shift to 4d, each room", |cases| {
         for log_d in 0..=3 {
             for blocks in [1, 2, 3, 5, 6, 8] {
                 let slots = square(log_d) * blocks;
-                for (rule, Rule { shifts, .. }) in RULES.iter().enumerate() {
-                    for k in 0..=if *shifts { (1 << log_d) + 1 } else { 0 } {
+                for (rule, Rule { shift, .. }) in RULES.iter().enumerate() {
+                    for k in 0..=if *shift == Shift::None { 0 } else { 4 << log_d } {
                         check_rule(cases, rule, slots, log_d, k);
                     }
                 }
                 check_plain(cases, slots, log_d);
                 for k in 0..=(1 << log_d) + 1 {
                     check_rows_rep(cases, slots, log_d, k);
+                }
+            }
+        }
+    });
+    tally.run("rotate_rows, rotate_cols: log_d 0 to 8, every shift to 4d, random ones to 65,536, the limit", |cases| {
+        for log_d in 0..=8 {
+            let every = (0..=4usize << log_d).chain((0..40).map(|_| random.below(MOST + 1)));
+            for k in every.chain([MOST - 1, MOST, MOST + 1, usize::MAX]) {
+                for (rule, _) in RULES.iter().enumerate().filter(|(_, rule)| rule.shift == Shift::Round) {
+                    check_rule(cases, rule, square(log_d), log_d, k);
                 }
             }
         }
@@ -352,8 +379,12 @@ pub fn compare(tally: &mut Tally) {
     });
     tally.run("matrix maps and products of 65,536 slots, log_d to 8", |cases| {
         for log_d in 4..=8 {
-            for (rule, Rule { shifts, .. }) in RULES.iter().enumerate() {
-                let k = if *shifts { random.below((1 << log_d) + 1) } else { 0 };
+            for (rule, Rule { shift, .. }) in RULES.iter().enumerate() {
+                let k = match shift {
+                    Shift::None => 0,
+                    Shift::Half => random.below((1 << log_d) + 1),
+                    Shift::Round => random.below(MOST + 1),
+                };
                 check_rule(cases, rule, MOST, log_d, k);
             }
             check_plain(cases, MOST, log_d);
@@ -403,9 +434,10 @@ pub fn compare(tally: &mut Tally) {
     tally.run("matrix maps: refusals in order, nothing changed", |cases| {
         for slots in [0, 1, 3, 4, 8, 12, 64, MOST, MOST + 1, usize::MAX] {
             for log_d in [0, 1, 2, 8, 9, 31, 32, 63, 64, usize::MAX] {
-                for k in [0, 1, 2, 3, 5, 257, usize::MAX] {
+                for k in [0, 1, 2, 3, 5, 257, MOST, MOST + 1, usize::MAX] {
                     for rule in 0..RULES.len() {
-                        if slots < MOST || !(2..=8).contains(&log_d) || k > 256 {
+                        // Large maps that are taken are compared above.
+                        if log_d < 8 || ruled(rule, slots, log_d, k).is_err() {
                             check_rule(cases, rule, slots, log_d, k);
                         }
                     }
@@ -442,6 +474,17 @@ pub fn bench(bench: &mut Bench) {
             || ours(keep(MOST), 8, 0, &mut p, &mut v),
             || rust(keep(MOST), 8, 0),
         );
+    }
+    for Rule { name, rust, ours, .. } in RULES.iter().filter(|rule| rule.shift == Shift::Round) {
+        let (mut p, mut v) = (vec![0; 4], vec![0; 2 * MOST]);
+        for k in [1, MOST - 1] {
+            bench.pair(
+                &format!("{name} of 256 by 256 by {k}"),
+                Some(4.0),
+                || ours(keep(MOST), 8, k, &mut p, &mut v),
+                || rust(keep(MOST), 8, k),
+            );
+        }
     }
     for (p, log_d, count) in [(2, 6, 16), (3, 6, 16), (0, 8, 1)] {
         let (name, ours) = PRODUCTS[p];
@@ -481,8 +524,14 @@ pub fn sample(sample: &mut Sample) {
     for log_d in 0..=2 {
         for blocks in [1, 2, 3] {
             let slots = square(log_d) * blocks;
-            for (rule, Rule { shifts, .. }) in RULES.iter().enumerate() {
-                for k in if *shifts { vec![0, 1, (1 << log_d), (1 << log_d) + 1] } else { vec![0] } {
+            for (rule, Rule { shift, .. }) in RULES.iter().enumerate() {
+                let d = 1 << log_d;
+                let shifts: &[usize] = match shift {
+                    Shift::None => &[0],
+                    Shift::Half => &[0, 1, d, d + 1],
+                    Shift::Round => &[0, 1, d, d + 1, 4 * d - 1, MOST - 1, MOST, MOST + 1, usize::MAX],
+                };
+                for &k in shifts {
                     let words = [rule, slots, log_d, k].map(|w| w as u64);
                     sample.call(32, &words, &told(right_rule(rule, slots, log_d, k), Some(square(log_d)), full));
                 }

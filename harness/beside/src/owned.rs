@@ -421,11 +421,11 @@ fn check_per_matrix(cases: &mut Cases, random: &mut Random, slots: usize, log_d:
 
 fn compare_matrices(tally: &mut Tally) {
     let mut random = Random::new(84);
-    tally.run("owned matrix maps: log_d 0 to 3, every shift, every count", |cases| {
+    tally.run("owned matrix maps: log_d 0 to 3, every shift to 4d, every count", |cases| {
         for log_d in 0..=3 {
             for (blocks, count) in (1..=6).flat_map(|blocks| (1..=4).map(move |count| (blocks, count))) {
                 let slots = square(log_d) * blocks;
-                (0..=(1 << log_d) + 1).for_each(|k| check_matrix_maps(cases, slots, log_d, k));
+                (0..=4 << log_d).for_each(|k| check_matrix_maps(cases, slots, log_d, k));
                 let b = any_matrices(&mut random, count * square(log_d));
                 check_products(cases, slots, log_d, count, &b);
                 check_per_matrix(cases, &mut random, slots, log_d);
@@ -435,12 +435,15 @@ fn compare_matrices(tally: &mut Tally) {
     tally.run("owned matrix maps: 65,536 slots, log_d to 6; slots, log_d and shifts out of range", |cases| {
         for log_d in 4..=6 {
             check_matrix_maps(cases, MOST, log_d, random.below((1 << log_d) + 1));
+            check_matrix_maps(cases, MOST, log_d, random.below(MOST + 1));
             let b = random.words(4 * square(log_d));
             check_products(cases, MOST, log_d, 4, &b);
         }
         for slots in [0, 3, 64, MOST + 1, usize::MAX] {
             for log_d in [0, 2, 9, 64, usize::MAX] {
-                [0, 1, 5, usize::MAX].into_iter().for_each(|k| check_matrix_maps(cases, slots, log_d, k));
+                for k in [0, 1, 5, MOST, MOST + 1, usize::MAX] {
+                    check_matrix_maps(cases, slots, log_d, k);
+                }
             }
         }
     });

@@ -100,7 +100,7 @@ fn matrices(random: &mut Random) -> String {
     let log_d = random.below(4);
     let d = 1 << log_d;
     let slots = d * d * (1 + random.below(5));
-    let k = random.below(d + 1);
+    let (k, round) = (random.below(d + 1), random.below(65_537));
     let mut maps = vec![
         sigma(slots, log_d),
         tau(slots, log_d),
@@ -108,8 +108,8 @@ fn matrices(random: &mut Random) -> String {
         transpose(slots, log_d),
         first_row(slots, log_d),
         first_col(slots, log_d),
-        rotate_rows(slots, log_d, k),
-        rotate_cols(slots, log_d, k),
+        rotate_rows(slots, log_d, round),
+        rotate_cols(slots, log_d, round),
         rows_upper(slots, log_d, k),
         rows_lower(slots, log_d, k),
         cols_left(slots, log_d, k),

@@ -53,7 +53,7 @@ pub const BUILD: Command = Command {
         "NAME is one of\n\
          \x20 sigma, tau, transpose, tau_rep, first_row, first_col: with --log-d;\n\
          \x20 rotate_rows, rotate_cols, rows_upper, rows_lower, cols_left, cols_right, rows_left, rows_right,\n\
-         \x20 rotate_rows_rep: with --log-d and the shift -k;\n\
+         \x20 rotate_rows_rep: with --log-d and the shift -k, which the first two take modulo d;\n\
          \x20 right_mul, left_mul, right_jkls, left_jkls: with --log-d, --count (1 without it) and --matrices, a vector of\n\
          \x20 the public matrices row after row; left_mul_rep: the same with one matrix;\n\
          \x20 per_matrix_map: with --log-d and --terms, a term i j w a line, i below d * d;\n\

@@ -29,7 +29,7 @@ use Rattle.maps.specs.declared.rules.Rule.the-variants.{Sigma, Tau, Tran
 use Rattle.maps.specs.declared.rules.Product.{Product}
 use Rattle.maps.specs.declared.rules.Product.the-variants.{RightMul, LeftMul, RightJkls, LeftJkls}
 use Rattle.maps.specs.Entries.{publicAt}
-use Rattle.maps.specs.Readings.{wholeMap, ruleMap, shiftOf, tauRep, rotateRowsRep}
+use Rattle.maps.specs.Readings.{wholeMap, ruleMap, madeShift, tauRep, rotateRowsRep}
 use Rattle.maps.specs.Sums.{periodOf, productMap, leftMulRep}
 use Rattle.maps.specs.Values.{slotProduct, firstRow, firstCol}
 use Rattle.maps.specs.Offsets.{Sized, forward, around, kept, wrapped, turned, ruleIndexes, productIndexes, full, keptCount, wrappedCount, rowsCount, turnedCount, ruleCount, productCount}
@@ -190,13 +190,13 @@ by-offsets ds e f = sym (length-map ds (λ (x : Diagonal). x .offset)) ∙ ap le
 
 module _ (m slots d : ℕ) (h : 1 ≤ d) (v : d * d ∣ slots) (p : 0 < slots) where
   -- as many as the formula's indexes name
-  rule-count : (rule : Rule) → shiftOf rule ≤ d → length (diagonalsOf slots (ruleIndexes rule d)) ≡ ruleCount slots d rule
+  rule-count : (rule : Rule) → madeShift rule d ≤ d → length (diagonalsOf slots (ruleIndexes rule d)) ≡ ruleCount slots d rule
   unfolding ruleIndexes ruleCount kept wrapped
   rule-count Sigma l = steps-count slots d h v p
   rule-count Tau l = rows-count slots d h v p
   rule-count Transpose l = across-count slots d h v p
-  rule-count (RotateRows k) l = turned-count slots d h v p k l
-  rule-count (RotateCols k) l = columns-count slots d h v p k
+  rule-count (RotateRows k) l = turned-count slots d h v p (k % d) l
+  rule-count (RotateCols k) l = columns-count slots d h v p (k % d)
   rule-count (RowsUpper k) l = test-count slots p (ltb k d) (pos (k * d))
   rule-count (RowsLower k) l = test-count slots p (leb 1 k) (gap d k d)
   rule-count (ColsLeft k) l = test-count slots p (ltb k d) (pos (k * 1))
@@ -204,7 +204,7 @@ module _ (m slots d : ℕ) (h : 1 ≤ d) (v : d * d ∣ slots) (p : 0 < slots) w
   rule-count (RowsLeft k) l = tests-count slots p (ltb k d) (turned d d k) (turnedCount slots d k) (turned-count slots d h v p k l)
   rule-count (RowsRight k) l = tests-count slots p (leb 1 k) (turned d d k) (turnedCount slots d k) (turned-count slots d h v p k l)
 
-  module _ (rule : Rule) (l : shiftOf rule ≤ d) where
+  module _ (rule : Rule) (l : madeShift rule d ≤ d) where
     -- before it shrinks, as its builder needs room for it
     pub wholeMap-size : Sized (wholeMap m slots d rule) (ruleCount slots d rule) (d * d)
     wholeMap-size = sized (wholeMap m slots d rule) (d * d) (by-offsets (wholeMap m slots d rule) (wholeMap-offsets m slots d rule h l) (rule-count rule l)) (wholeMap-period m slots d rule h v)

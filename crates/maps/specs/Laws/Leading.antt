@@ -30,14 +30,14 @@ use Rattle.diagonals.specs.Laws.Shrinking.{shrunk-formed, shrunk-product}
 use Rattle.maps.specs.declared.rules.Rule.{Rule}
 use Rattle.maps.specs.declared.rules.Product.{Product}
 use Rattle.maps.specs.Entries.{entryOf, slotOf, entryAt}
-use Rattle.maps.specs.Readings.{reads, wholeMap, ruleMap, shiftOf, tauRep, rotateRowsRep}
+use Rattle.maps.specs.Readings.{reads, wholeMap, ruleMap, shiftOf, shiftLimit, madeShift, tauRep, rotateRowsRep}
 use Rattle.maps.specs.Sums.{productMap, formula, leftMulRep}
 use Rattle.maps.specs.Values.{slotProduct, firstRow, firstCol}
 use Rattle.maps.specs.Offsets.{ruleCount, productCount}
 use Rattle.maps.specs.Calls.{noTiles, ShrunkWritten, ruleRefusal, RuleWritten, matrixTermsMap, perMatrixRefusal, productRefusal, leftMulRepRefusal, tiledRefusal, rowsRepRefusal, slotProductRefusal, TiledWritten, RowsRepWritten, LeftMulRepWritten, SlotProductWritten, ProductWritten, PerMatrixWritten}
 use Rattle.maps.specs.Steps.Tiles.{Tiles}
 use Rattle.maps.specs.Laws.Tiling.{side-pos, square-pos, not-refused}
-use Rattle.maps.specs.Laws.Readings.{wholeMap-formed, ruleMap-at}
+use Rattle.maps.specs.Laws.Readings.{made-low, wholeMap-formed, ruleMap-at}
 use Rattle.maps.specs.Laws.Sums.{square-divides, productMap-formed, productMap-at}
 use Rattle.maps.specs.Laws.Replicated.{tauRep-formed, leftMulRep-formed, rotateRowsRep-formed}
 use Rattle.maps.specs.Laws.Values.{firstRow-formed, firstCol-formed, slotProduct-formed}
@@ -95,8 +95,8 @@ module _ (slots l : ℕ) (rule : Rule) {p₀ p₁ v₀ v₁ : List ℕ} {r : Ans
   tiles : Tiles slots l 1
   tiles = tiles-of slots l 1 _ z
 
-  shift-low : shiftOf rule ≤ 2 ^ l
-  shift-low = ltb-false (2 ^ l) (shiftOf rule) (pick-none _ 6 _ (suc-ne-zero 5) (tiled slots l 1 _ z .1) .0)
+  shift-low : madeShift rule (2 ^ l) ≤ 2 ^ l
+  shift-low = made-low rule (2 ^ l) (side-pos l) (ltb-false (shiftLimit rule (2 ^ l)) (shiftOf rule) (pick-none _ 6 _ (suc-ne-zero 5) (tiled slots l 1 _ z .1) .0))
 
   size : length (wholeMap modulus slots (2 ^ l) rule) ≡ ruleCount slots (2 ^ l) rule
   size = wholeMap-size modulus slots (2 ^ l) (side-pos l) (period-divides tiles) (tiles .low) rule shift-low .count

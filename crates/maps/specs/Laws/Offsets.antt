@@ -28,7 +28,7 @@ use Rattle.maps.specs.declared.rules.Rule.the-variants.{Sigma, Tau, Tran
 use Rattle.maps.specs.declared.rules.Product.{Product}
 use Rattle.maps.specs.declared.rules.Product.the-variants.{RightMul, LeftMul, RightJkls, LeftJkls}
 use Rattle.maps.specs.Entries.{Entry, InMatrix, place, entryOf, slotOf}
-use Rattle.maps.specs.Readings.{reading, reads, readTerms, ruleTerms, wholeMap, ruleMap, shiftOf, tauRep, rotateRowsRep}
+use Rattle.maps.specs.Readings.{reading, reads, readTerms, ruleTerms, wholeMap, ruleMap, madeShift, tauRep, rotateRowsRep}
 use Rattle.maps.specs.Sums.{factors, periodOf, sumTerm, outputTerms, productMap, leftMulRep}
 use Rattle.maps.specs.Values.{slotProduct, firstRow, firstCol}
 use Rattle.maps.specs.Offsets.{forward, around, kept, wrapped, turned, ruleIndexes, productIndexes}
@@ -149,13 +149,13 @@ module _ (d r c : ℕ) (h : r < d) (k : c < d) where
   low x = mod-lt x (omega arith)
 
   -- what output (r, c) reads is at an index of the map
-  reads-listed : (rule : Rule) → shiftOf rule ≤ d → Each (Listed rule) (reads rule d r c)
+  reads-listed : (rule : Rule) → madeShift rule d ≤ d → Each (Listed rule) (reads rule d r c)
   unfolding reads ruleIndexes
   reads-listed Sigma l = (Memᴰ·cast (col-gap d r ((r + c) % d) c) (around-has d 1 ((r + c) % d) c (low (r + c)) k), tt)
   reads-listed Tau l = (Memᴰ·cast (row-gap d c ((r + c) % d) r) (around-has d d ((r + c) % d) r (low (r + c)) h), tt)
   reads-listed Transpose l = (Memᴰ·cast (cross-gap d c r (omega arith)) (around-has d (d - 1) c r k h), tt)
-  reads-listed (RotateRows x) l = (Memᴰ·cast (row-gap d c ((r + x) % d) r) (turned-has d d x r h l), tt)
-  reads-listed (RotateCols x) l = (Memᴰ·cast (col-gap d r ((c + x) % d) c) (turned-has d 1 x c k l), tt)
+  reads-listed (RotateRows x) l = (Memᴰ·cast (row-gap d c ((r + x % d) % d) r) (turned-has d d (x % d) r h l), tt)
+  reads-listed (RotateCols x) l = (Memᴰ·cast (col-gap d r ((c + x % d) % d) c) (turned-has d 1 (x % d) c k l), tt)
   reads-listed (RowsUpper x) l = each-reading (Listed (RowsUpper x)) (ltb (r + x) d) (r + x) c (λ e. Memᴰ·cast (row-gap d c (r + x) r) (kept-has d d x r (ltb-true (r + x) d e)))
   reads-listed (RowsLower x) l = each-reading (Listed (RowsLower x)) (leb d (r + x)) (r + x - d) c (λ e. Memᴰ·cast (row-gap d c (r + x - d) r) (wrapped-has d d x r h (leb-true d (r + x) e)))
   reads-listed (ColsLeft x) l = each-reading (Listed (ColsLeft x)) (ltb (c + x) d) r (c + x) (λ e. Memᴰ·cast (col-gap d r (c + x) c) (kept-has d 1 x c (ltb-true (c + x) d e)))
@@ -186,7 +186,7 @@ module _ (d : ℕ) (n : 1 ≤ d) where
       record { output = record { row = r; col = b }; inside = record { row-low = h; col-low = k }; entry = record { row = r; col = a }; found = e; is = col-gap d r a b }
 
   -- at each index of the map some output reads
-  listed-reads : (rule : Rule) → shiftOf rule ≤ d → Each (ReadsAt rule d) (ruleIndexes rule d)
+  listed-reads : (rule : Rule) → madeShift rule d ≤ d → Each (ReadsAt rule d) (ruleIndexes rule d)
   unfolding reads ruleIndexes
   listed-reads Sigma l =
       around-each d 1 (ReadsAt Sigma d)
@@ -198,8 +198,8 @@ module _ (d : ℕ) (n : 1 ≤ d) where
       around-each d (d - 1) (ReadsAt Transpose d)
       (λ a b h k.
       record { output = record { row = b; col = a }; inside = record { row-low = k; col-low = h }; entry = record { row = a; col = b }; found = refl; is = cross-gap d a b n })
-  listed-reads (RotateRows x) l = turned-each d d x n l (ReadsAt (RotateRows x) d) (λ y h. in-column (RotateRows x) 0 ((y + x) % d) y h n refl)
-  listed-reads (RotateCols x) l = turned-each d 1 x n l (ReadsAt (RotateCols x) d) (λ y h. in-row (RotateCols x) 0 ((y + x) % d) y n h refl)
+  listed-reads (RotateRows x) l = turned-each d d (x % d) n l (ReadsAt (RotateRows x) d) (λ y h. in-column (RotateRows x) 0 ((y + x % d) % d) y h n refl)
+  listed-reads (RotateCols x) l = turned-each d 1 (x % d) n l (ReadsAt (RotateCols x) d) (λ y h. in-row (RotateCols x) 0 ((y + x % d) % d) y n h refl)
   listed-reads (RowsUpper x) l = kept-each d d x (ReadsAt (RowsUpper x) d) (λ y h. in-column (RowsUpper x) 0 (y + x) y (omega arith) n (rw (lt-ltb (y + x) d h)))
   listed-reads (RowsLower x) l = wrapped-each d d x n (ReadsAt (RowsLower x) d) (λ y h k. in-column (RowsLower x) 0 (y + x - d) y h n (rw (le-leb d (y + x) k)))
   listed-reads (ColsLeft x) l = kept-each d 1 x (ReadsAt (ColsLeft x) d) (λ y h. in-row (ColsLeft x) 0 (y + x) y n (omega arith) (rw (lt-ltb (y + x) d h)))
@@ -213,7 +213,7 @@ module _ (d : ℕ) (n : 1 ≤ d) where
 
 -- ---- the maps that read one entry or none
 
-module _ (m slots d : ℕ) (rule : Rule) (h : 1 ≤ d) (l : shiftOf rule ≤ d) where
+module _ (m slots d : ℕ) (rule : Rule) (h : 1 ≤ d) (l : madeShift rule d ≤ d) where
   abbrev terms : List Term
   terms = ruleTerms rule d
 

@@ -2,7 +2,7 @@
 -- Assumes nothing.
 use Prim.Native.Nat.{ℕ, _+_, _*_, _-_, _/_, _%_, _≤_, _<_, _∣_}
 use mathlib.Core.Path.{_≡_, refl, sym, ap, subst, _∙_}
-use mathlib.Core.Bool.{Bool, true, false}
+use mathlib.Core.Bool.{Bool, true, false, cond}
 use mathlib.Core.List.{List}
 use native.Mathlib.Nat.{mod-lt, mod-eq-of-lt, one-le-mul, add-comm, add-mod-right}
 use native.Mathlib.Omega.{arith}
@@ -25,9 +25,18 @@ use Rattle.diagonals.specs.Laws.Shrinking.{common-divides, shrunk-formed, shrun
 use Rattle.maps.specs.declared.rules.Rule.{Rule}
 use Rattle.maps.specs.declared.rules.Rule.the-variants.{Sigma, Tau, Transpose, RotateRows, RotateCols, RowsUpper, RowsLower, ColsLeft, ColsRight, RowsLeft, RowsRight}
 use Rattle.maps.specs.Entries.{Entry, InMatrix, place, entryOf, slotOf, entryAt}
-use Rattle.maps.specs.Readings.{reading, reads, readTerms, ruleTerms, wholeMap, ruleMap, shiftOf}
+use Rattle.maps.specs.Readings.{reading, reads, readTerms, ruleTerms, wholeMap, ruleMap, shiftOf, goesRound, shiftLimit, madeShift}
 use Rattle.maps.specs.Laws.Entries.{place-low, entry-of-place, slot-low, entry-inside, slot-is, slot-inside}
 use Rattle.maps.specs.Laws.Terms.{each-join, InPeriod, adds, own-product}
+
+-- ---- the shift that a rule makes, of those that it takes, stays in the matrix
+
+pub made-low : (rule : Rule) (d : ℕ) → 1 ≤ d → shiftOf rule ≤ shiftLimit rule d → madeShift rule d ≤ d
+made-low rule d h l = by (goesRound rule) l
+  where
+    by : (b : Bool) → shiftOf rule ≤ cond b 65536 d → cond b (shiftOf rule % d) (shiftOf rule) ≤ d
+    by true l = omega (arith, mod-lt (shiftOf rule) h)
+    by false l = l
 
 -- ---- what is read is inside the matrix
 
@@ -39,13 +48,13 @@ module _ (d r c : ℕ) (h : r < d) (k : c < d) where
   turned : (x : ℕ) → x % d < d
   turned x = mod-lt x (omega arith)
 
-  pub reads-inside : (rule : Rule) → shiftOf rule ≤ d → Each (InMatrix d) (reads rule d r c)
+  pub reads-inside : (rule : Rule) → madeShift rule d ≤ d → Each (InMatrix d) (reads rule d r c)
   unfolding reads
   reads-inside Sigma l = reading-inside d true r ((r + c) % d) (λ e. h) (λ e. turned (r + c))
   reads-inside Tau l = reading-inside d true ((r + c) % d) c (λ e. turned (r + c)) (λ e. k)
   reads-inside Transpose l = reading-inside d true c r (λ e. k) (λ e. h)
-  reads-inside (RotateRows x) l = reading-inside d true ((r + x) % d) c (λ e. turned (r + x)) (λ e. k)
-  reads-inside (RotateCols x) l = reading-inside d true r ((c + x) % d) (λ e. h) (λ e. turned (c + x))
+  reads-inside (RotateRows x) l = reading-inside d true ((r + x % d) % d) c (λ e. turned (r + x % d)) (λ e. k)
+  reads-inside (RotateCols x) l = reading-inside d true r ((c + x % d) % d) (λ e. h) (λ e. turned (c + x % d))
   reads-inside (RowsUpper x) l = reading-inside d (ltb (r + x) d) (r + x) c (λ e. ltb-true (r + x) d e) (λ e. k)
   reads-inside (RowsLower x) l = reading-inside d (leb d (r + x)) (r + x - d) c (λ e. omega (arith, leb-true d (r + x) e)) (λ e. k)
   reads-inside (ColsLeft x) l = reading-inside d (ltb (c + x) d) r (c + x) (λ e. h) (λ e. ltb-true (c + x) d e)
@@ -62,7 +71,7 @@ own-terms rule d t =
     (each-all (λ e. refl) (reads rule d (entryOf d t .row) (entryOf d t .col)))
 
 -- they stay in the matrix slot
-pub terms-inside : (d : ℕ) (rule : Rule) → 1 ≤ d → shiftOf rule ≤ d → Each (InPeriod (d * d)) (ruleTerms rule d)
+pub terms-inside : (d : ℕ) (rule : Rule) → 1 ≤ d → madeShift rule d ≤ d → Each (InPeriod (d * d)) (ruleTerms rule d)
 terms-inside d rule h l =
     each-join (InPeriod (d * d)) (readTerms rule d) (tabulate (d * d) (λ t. t))
     (each-tabulate (λ t. Each (InPeriod (d * d)) (readTerms rule d t)) (d * d) (λ t. t)
@@ -102,7 +111,7 @@ module _ (m slots d : ℕ) (rule : Rule) (h : 1 ≤ d) (v : d * d ∣ slots) whe
 
 -- ---- the product
 
-module _ (m slots d : ℕ) (rule : Rule) (l : shiftOf rule ≤ d) (v : d * d ∣ slots) (input : List ℕ) where
+module _ (m slots d : ℕ) (rule : Rule) (l : madeShift rule d ≤ d) (v : d * d ∣ slots) (input : List ℕ) where
   module _ (s : ℕ) (e : Entry) (i : InMatrix d e) (k : s < slots / (d * d)) where
     some : 1 ≤ d
     some = omega (arith, i .row-low)

@@ -109,16 +109,16 @@ module _ (slots d : ℕ) (v : d * d ∣ slots) (h : 1 ≤ d) (t : ℕ) (l : t < 
 
     -- ---- `rotate_rows_rep`
 
-    pub rotateRowsRep-product : (k : ℕ) → k ≤ d → product m slots (rotateRowsRep slots d k) input t ≡ product m slots (ruleMap m slots d (RotateRows k)) input t
+    pub rotateRowsRep-product : (k : ℕ) → product m slots (rotateRowsRep slots d k) input t ≡ product m slots (ruleMap m slots d (RotateRows k)) input t
     unfolding product rotateRowsRep reads
-    rotateRowsRep-product k n =
+    rotateRowsRep-product k =
         one-sum m (term m slots input t (record { offset = k * d % slots; values = 1 ∷ [] }))
         ∙ mulm-mod m (cell (1 ∷ []) t) (getD input ((t + k * d % slots) % slots) 0)
         ∙ ap (λ (x : ℕ). mulm m (getD (1 ∷ []) x 0) (getD input ((t + k * d % slots) % slots) 0)) (mod-one t)
         ∙ one-mulm m (getD input ((t + k * d % slots) % slots) 0)
         ∙ ap (λ (x : ℕ). getD input x 0 % m) (add-mod-mod t (k * d) slots)
         ∙ ap (λ (x : ℕ). x % m) (rows-read k)
-        ∙ sym (ruleMap-at m slots d (RotateRows k) n v input h t l ∙ one-sum m (entryAt d input s (below d e in-matrix k)))
+        ∙ sym (ruleMap-at m slots d (RotateRows k) (omega (arith, mod-lt k h)) v input h t l ∙ one-sum m _ ∙ ap (λ (x : ℕ). entryAt d input s (record { row = x; col = e .col }) % m) (add-mod-mod (e .row) k d))
 
     -- ---- `left_mul_rep`
 

@@ -15,7 +15,7 @@ use Rattle.maps.specs.declared.rules.Rule.{Rule}
 use Rattle.maps.specs.declared.rules.Rule.the-variants.{Sigma, Tau}
 use Rattle.maps.specs.declared.rules.Product.the-variants.{RightMul, LeftMul, RightJkls, LeftJkls}
 use Rattle.maps.specs.Entries.{Entry, InMatrix, place, entryOf, slotOf, entryAt, publicAt}
-use Rattle.maps.specs.Readings.{reads, ruleMap, after, shiftOf}
+use Rattle.maps.specs.Readings.{reads, ruleMap, after, madeShift}
 use Rattle.maps.specs.Sums.{factors, productMap, summand, formula}
 use Rattle.maps.specs.Laws.Entries.{slot-low, entry-inside, slot-inside}
 use Rattle.maps.specs.Laws.Terms.{sum-same, sum-turned}
@@ -29,7 +29,7 @@ one-sum m x = ap (λ (y : ℕ). y % m) (add-zero x)
 
 module _ (m slots d : ℕ) (v : d * d ∣ slots) (a : List ℕ) (s : ℕ) (k : s < slots / (d * d)) where
   -- its entries
-  after-is : (rule : Rule) → shiftOf rule ≤ d → (e : Entry) → InMatrix d e → entryAt d (after m slots d rule a) s e ≡ sumBy m (entryAt d a s) (reads rule d (e .row) (e .col))
+  pub after-is : (rule : Rule) → madeShift rule d ≤ d → (e : Entry) → InMatrix d e → entryAt d (after m slots d rule a) s e ≡ sumBy m (entryAt d a s) (reads rule d (e .row) (e .col))
   after-is rule l e h =
       getD-tabulate slots (product m slots (ruleMap m slots d rule) a) (s * (d * d) + place d e) 0 (slot-low d e h s slots v k)
       ∙ ruleMap-product m slots d rule l v a s e h k

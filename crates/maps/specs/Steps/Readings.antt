@@ -11,7 +11,7 @@ use Rattle.ring.specs.Refusals.{firstOf}
 use Rattle.diagonals.specs.Building.{PlacesOf, SumsOf}
 use Rattle.maps.specs.declared.rules.Rule.{Rule}
 use Rattle.maps.specs.Entries.{place}
-use Rattle.maps.specs.Readings.{reading, reads, ruleTerms, shiftOf}
+use Rattle.maps.specs.Readings.{reading, reads, ruleTerms, shiftOf, shiftLimit, madeShift}
 use Rattle.maps.specs.Calls.{tileRefusals}
 use Rattle.maps.specs.Steps.Tiles.{Tiling}
 
@@ -34,7 +34,12 @@ pub record ReadIs (rule : Rule) (d r c : ℕ) (there : Bool) (j : ℕ) : Type 0 
 -- what a rule that is not refused is
 pub record Ruled (slots d : ℕ) (rule : Rule) : Type 0 where
   pub tiles : Tiling slots d 1
-  pub shift-low : shiftOf rule ≤ d
+  pub shift-low : madeShift rule d ≤ d
+
+-- the shift that it makes
+pub record Makes (rule : Rule) (d k : ℕ) : Type 0 where
+  pub is : k ≡ madeShift rule d
+  pub low : k ≤ d
 
 -- places for the terms, and zeros for their values
 pub record RuleSumming (slots d : ℕ) (rule : Rule) (places values : List ℕ) : Type 0 where
@@ -44,7 +49,7 @@ pub record RuleSumming (slots d : ℕ) (rule : Rule) (places values : List ℕ) 
 
 -- the refusals of a rule, before the room is known
 abbrev pub ruleRefusals : ℕ → ℕ → Rule → List (Bool × ℕ)
-ruleRefusals slots logD rule = tileRefusals slots logD 1 ++ (ltb (2 ^ logD) (shiftOf rule), 6) ∷ []
+ruleRefusals slots logD rule = tileRefusals slots logD 1 ++ (ltb (shiftLimit rule (2 ^ logD)) (shiftOf rule), 6) ∷ []
 
 pub record RuleJudged (slots logD : ℕ) (rule : Rule) (r : ℕ) : Type 0 where
   pub answer : r ≡ firstOf (ruleRefusals slots logD rule)

@@ -110,6 +110,9 @@ fn every_matrix_map_is_built_by_its_name() {
     for (name, map) in shifts {
         assert_eq!(built(&format!("{name} --log-d 1 -k 1")), map(8, 1, 1).unwrap(), "{name}");
     }
+    for (name, map) in &shifts[..2] {
+        assert_eq!(built(&format!("{name} --log-d 1 -k 65535")), map(8, 1, 1).unwrap(), "{name}");
+    }
     let entry = |s: usize, r: usize, c: usize| b[4 * s + 2 * r + c];
     let of_two = "--log-d 1 --count 2 --matrices b.vec";
     assert_eq!(built(&format!("right_mul {of_two}")), maps::right_mul(8, 1, 2, entry).unwrap());
@@ -135,6 +138,8 @@ fn bad_matrix_maps_are_refused() {
     let tiles = "count is 1 and d is 2: count * d * d must divide the 6 slots";
     bench.refused(&build("sigma --slots 6 --log-d 1"), 5, tiles);
     bench.refused(&build("rows_lower --slots 4 --log-d 1 -k 3"), 6, "k is 3: the shift must be from 0 to 2");
+    let round = "k is 65537: the shift must be from 0 to 65536";
+    bench.refused(&build("rotate_rows --slots 4 --log-d 1 -k 65537"), 6, round);
     bench.refused(&build("rotate_rows_rep --slots 4 --log-d 1 -k 2"), 6, "k is 2: the shift must be from 1 to 1");
     bench.refused(
         &build("rotate_rows_rep --slots 4 --log-d 0 -k 0"),

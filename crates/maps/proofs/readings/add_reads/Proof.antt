@@ -6,18 +6,21 @@ use native.Mathlib.Omega.{arith}
 use lib.ListN.{length}
 use Rattle.ring.specs.Slots.{addm}
 use Rattle.maps.specs.Laws.Tiling.{low-squared}
-use Rattle.maps.proofs.Entering.{output-within, reads-low, AddingReads, adding-none, reads-inside, adding-yes, adding-no, adding-done}
+use Rattle.maps.proofs.Entering.{makes, output-within, reads-low, AddingReads, adding-none, reads-inside, adding-yes, adding-no, adding-done}
 use Rattle.maps.proofs.readings.add_reads.Statement.{statement}
 use Rattle.maps.proofs.readings.add_reads.Tie as tie
 
 abbrev Inv-loop : tie.InvT-loop
-Inv-loop rule slots d places values₀ period t₀ values t = AddingReads slots d rule values₀ values t
+Inv-loop rule slots d places values₀ k period t₀ values t = AddingReads slots d rule values₀ values t
 
 abbrev μ-loop : tie.MeasureT-loop
-μ-loop rule slots d places values₀ period t₀ values t = d * d - t
+μ-loop rule slots d places values₀ k period t₀ values t = d * d - t
+
+made-shift-requires : tie.Need-made-shift-requires Inv-loop μ-loop
+made-shift-requires c κs = search needs
 
 mul-period : tie.Need-mul-period Inv-loop μ-loop
-mul-period c = omega (arith, low-squared (c .before .pre .ruled .tiles .side-low))
+mul-period c = omega (arith, low-squared (c .before .before .pre .ruled .tiles .side-low))
 
 loop-holds : tie.Need-loop-holds Inv-loop μ-loop
 loop-holds c = search (adding-none, needs)
@@ -29,7 +32,7 @@ rem-read-at : tie.Need-rem-read-at Inv-loop μ-loop
 rem-read-at c = search needs
 
 read-at-requires : tie.Need-read-at-requires Inv-loop μ-loop
-read-at-requires c κs = search (output-within, needs)
+read-at-requires c κs = search (output-within, makes, needs)
 
 offset-of-requires : tie.Need-offset-of-requires Inv-loop μ-loop
 offset-of-requires c κs = search needs
@@ -48,7 +51,7 @@ wide-requires : tie.Need-wide-requires Inv-loop μ-loop
 wide-requires c κs = search needs
 
 -- its entry is within the values
-inside : (c : tie.After-wide Inv-loop μ-loop) → c .wide .result * (c .before .before .before .before .before .before .before .before .args .d * c .before .before .before .before .before .before .before .before .args .d) + c .before .before .before .before .before .before .loop .t < length (c .before .before .before .before .before .before .loop .values)
+inside : (c : tie.After-wide Inv-loop μ-loop) → c .wide .result * (c .before .before .before .before .before .before .before .before .before .args .d * c .before .before .before .before .before .before .before .before .before .args .d) + c .before .before .before .before .before .before .loop .t < length (c .before .before .before .before .before .before .loop .values)
 inside c = search (reads-inside, needs)
 
 mul-x : tie.Need-mul-x Inv-loop μ-loop
@@ -80,7 +83,13 @@ loop-less c = search needs
 
 loop-again : tie.Need-loop-again Inv-loop μ-loop
 unfolding addm
-loop-again c = ⊎-elim (λ w. rw (w .5) (adding-yes (c .before .before .before .before .before .before .pre) (c .before .before .before .loop-test .taken) (c .before .before .read-at .ensures) (c .before .before .before .before .loop .inv) (c .before .offset-of .ensures) (w .0 .taken) (w .2 .ensures) (w .4 .ensures))) (λ w. rw (w .1) (search (adding-no, needs))) (c .if1 .came)
+loop-again c =
+    let g = c .before .before .before .before .before .before .before .pre in
+    let l = c .before .before .before .loop-test .taken in
+    let q = c .before .before .read-at .ensures in
+    let s = c .before .before .before .before .loop .inv in
+    ⊎-elim (λ w. rw (w .5) (adding-yes g l q s (c .before .offset-of .ensures) (w .0 .taken) (w .2 .ensures) (w .4 .ensures))) (λ w. rw (w .1) (adding-no g l q s (w .0 .left)))
+    (c .if1 .came)
 
 same-length : tie.Need-same-length Inv-loop μ-loop
 same-length c = c .before .loop .inv .so-far .len
@@ -94,6 +103,7 @@ add-reads-spec =
     (tie.spec
     Inv-loop
     μ-loop
+    made-shift-requires
     mul-period
     loop-holds
     div-read-at

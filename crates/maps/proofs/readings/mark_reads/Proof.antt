@@ -4,18 +4,21 @@ use Prim.Native.Nat.{_-_, _*_}
 use mathlib.Core.Logic.{⊎-elim}
 use native.Mathlib.Omega.{arith}
 use Rattle.maps.specs.Laws.Tiling.{low-squared}
-use Rattle.maps.proofs.Entering.{output-within, reads-low, MarkingReads, marking-none, marking-yes, marking-no, marking-done}
+use Rattle.maps.proofs.Entering.{makes, output-within, reads-low, MarkingReads, marking-none, marking-yes, marking-no, marking-done}
 use Rattle.maps.proofs.readings.mark_reads.Statement.{statement}
 use Rattle.maps.proofs.readings.mark_reads.Tie as tie
 
 abbrev Inv-loop : tie.InvT-loop
-Inv-loop rule slots d seen₀ t₀ t-end seen t = MarkingReads slots d rule seen t
+Inv-loop rule slots d seen₀ k t₀ t-end seen t = MarkingReads slots d rule seen t
 
 abbrev μ-loop : tie.MeasureT-loop
-μ-loop rule slots d seen₀ t₀ t-end seen t = d * d - t
+μ-loop rule slots d seen₀ k t₀ t-end seen t = d * d - t
+
+made-shift-requires : tie.Need-made-shift-requires Inv-loop μ-loop
+made-shift-requires c κs = search needs
 
 mul-t-end : tie.Need-mul-t-end Inv-loop μ-loop
-mul-t-end c = omega (arith, low-squared (c .pre .0 .tiles .side-low))
+mul-t-end c = omega (arith, low-squared (c .before .pre .0 .tiles .side-low))
 
 loop-holds : tie.Need-loop-holds Inv-loop μ-loop
 loop-holds c = search (marking-none, needs)
@@ -27,7 +30,7 @@ rem-read-at : tie.Need-rem-read-at Inv-loop μ-loop
 rem-read-at c = search needs
 
 read-at-requires : tie.Need-read-at-requires Inv-loop μ-loop
-read-at-requires c κs = search (output-within, needs)
+read-at-requires c κs = search (output-within, makes, needs)
 
 offset-of-requires : tie.Need-offset-of-requires Inv-loop μ-loop
 offset-of-requires c κs = search needs
@@ -53,6 +56,7 @@ mark-reads-spec =
     (tie.spec
     Inv-loop
     μ-loop
+    made-shift-requires
     mul-t-end
     loop-holds
     div-read-at

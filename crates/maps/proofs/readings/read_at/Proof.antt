@@ -4,9 +4,6 @@ use Rattle.maps.proofs.Entering.{within-row, within-col, sigma-reads, t
 use Rattle.maps.proofs.readings.read_at.Statement.{statement}
 use Rattle.maps.proofs.readings.read_at.Tie as tie
 
-shift-of-requires : tie.Need-shift-of-requires
-shift-of-requires c κs = search needs
-
 add-folded : tie.Need-add-folded
 add-folded c = search needs
 
@@ -29,13 +26,13 @@ enum-told : tie.Need-enum-told
 enum-told c = search needs
 
 entry-requires : tie.Need-entry-requires
-entry-requires c κs = within-col (c .before .before .before .before .before .before .pre .0) _ (c .before .before .folded3 .ensures)
+entry-requires c κs = within-col (c .before .before .before .before .before .pre .0) _ (c .before .before .folded3 .ensures)
 
 enum-told-2 : tie.Need-enum-told-2
 enum-told-2 c = search needs
 
 entry-requires-2 : tie.Need-entry-requires-2
-entry-requires-2 c κs = within-row (c .before .before .before .before .before .before .pre .0) _ (c .before .before .folded3 .ensures)
+entry-requires-2 c κs = within-row (c .before .before .before .before .before .pre .0) _ (c .before .before .folded3 .ensures)
 
 enum-told-3 : tie.Need-enum-told-3
 enum-told-3 c = search needs
@@ -47,13 +44,13 @@ enum-told-4 : tie.Need-enum-told-4
 enum-told-4 c = search needs
 
 entry-requires-4 : tie.Need-entry-requires-4
-entry-requires-4 c κs = within-row (c .before .before .before .before .before .before .pre .0) _ (c .before .before .before .before .folded .ensures)
+entry-requires-4 c κs = within-row (c .before .before .before .before .before .pre .0) _ (c .before .before .before .before .folded .ensures)
 
 enum-told-5 : tie.Need-enum-told-5
 enum-told-5 c = search needs
 
 entry-requires-5 : tie.Need-entry-requires-5
-entry-requires-5 c κs = within-col (c .before .before .before .before .before .before .pre .0) _ (c .before .before .before .folded2 .ensures)
+entry-requires-5 c κs = within-col (c .before .before .before .before .before .pre .0) _ (c .before .before .before .folded2 .ensures)
 
 enum-told-6 : tie.Need-enum-told-6
 enum-told-6 c = search needs
@@ -62,7 +59,7 @@ add-entry : tie.Need-add-entry
 add-entry c = search needs
 
 entry-requires-6 : tie.Need-entry-requires-6
-entry-requires-6 c κs = within-row (c .before .before .before .before .before .before .pre .0) _ (c .before .before .before .before .folded .ensures)
+entry-requires-6 c κs = within-row (c .before .before .before .before .before .pre .0) _ (c .before .before .before .before .folded .ensures)
 
 enum-told-7 : tie.Need-enum-told-7
 enum-told-7 c = search needs
@@ -71,7 +68,7 @@ add-entry-2 : tie.Need-add-entry-2
 add-entry-2 c = search needs
 
 entry-requires-7 : tie.Need-entry-requires-7
-entry-requires-7 c κs = within-row (c .before .before .before .before .before .before .pre .0) _ (c .before .before .before .before .folded .ensures)
+entry-requires-7 c κs = within-row (c .before .before .before .before .before .pre .0) _ (c .before .before .before .before .folded .ensures)
 
 enum-told-8 : tie.Need-enum-told-8
 enum-told-8 c = search needs
@@ -80,7 +77,7 @@ add-entry-3 : tie.Need-add-entry-3
 add-entry-3 c = search needs
 
 entry-requires-8 : tie.Need-entry-requires-8
-entry-requires-8 c κs = within-col (c .before .before .before .before .before .before .pre .0) _ (c .before .before .before .folded2 .ensures)
+entry-requires-8 c κs = within-col (c .before .before .before .before .before .pre .0) _ (c .before .before .before .folded2 .ensures)
 
 enum-told-9 : tie.Need-enum-told-9
 enum-told-9 c = search needs
@@ -89,7 +86,7 @@ add-entry-4 : tie.Need-add-entry-4
 add-entry-4 c = search needs
 
 entry-requires-9 : tie.Need-entry-requires-9
-entry-requires-9 c κs = within-col (c .before .before .before .before .before .before .pre .0) _ (c .before .before .before .folded2 .ensures)
+entry-requires-9 c κs = within-col (c .before .before .before .before .before .pre .0) _ (c .before .before .before .folded2 .ensures)
 
 enum-told-10 : tie.Need-enum-told-10
 enum-told-10 c = search needs
@@ -98,7 +95,7 @@ add-entry-5 : tie.Need-add-entry-5
 add-entry-5 c = search needs
 
 entry-requires-10 : tie.Need-entry-requires-10
-entry-requires-10 c κs = within-row (c .before .before .before .before .before .before .pre .0) _ (c .before .before .before .before .folded .ensures)
+entry-requires-10 c κs = within-row (c .before .before .before .before .before .pre .0) _ (c .before .before .before .before .folded .ensures)
 
 enum-told-11 : tie.Need-enum-told-11
 enum-told-11 c = search needs
@@ -107,7 +104,7 @@ add-entry-6 : tie.Need-add-entry-6
 add-entry-6 c = search needs
 
 entry-requires-11 : tie.Need-entry-requires-11
-entry-requires-11 c κs = within-row (c .before .before .before .before .before .before .pre .0) _ (c .before .before .before .before .folded .ensures)
+entry-requires-11 c κs = within-row (c .before .before .before .before .before .pre .0) _ (c .before .before .before .before .folded .ensures)
 
 returns : tie.Need-returns
 returns c = search (sigma-reads, needs)
@@ -146,7 +143,6 @@ pub read-at-spec : {M : Type 1} → statement M
 read-at-spec =
     tie.close
     (tie.spec
-    shift-of-requires
     add-folded
     folded-requires
     add-folded-2
