@@ -25,6 +25,7 @@ use Rattle.maps.specs.declared.rules.Rule.{Rule}
 use Rattle.maps.specs.declared.rules.Rule.the-variants.{Sigma, Tau, Transpose, RotateRows, RotateCols, RowsUpper, RowsLower, ColsLeft, ColsRight, RowsLeft, RowsRight}
 use Rattle.maps.specs.Entries.{Entry, place}
 use Rattle.maps.specs.Readings.{reading, reads, readTerms, ruleTerms, shiftOf, shiftLimit, madeShift}
+use Rattle.maps.specs.Calls.{noShift}
 use Rattle.maps.specs.Steps.Tiles.{TilesJudged}
 use Rattle.maps.specs.Laws.Tiling.{side-pos, tiling, tiles-first, tiles-later}
 use Rattle.maps.specs.Laws.Readings.{made-low}
@@ -208,14 +209,14 @@ adding-done {slots} {d} {rule} {old} {values} {t} s h =
 pub tiles-refuse : {slots logD r : ℕ} (rule : Rule) → TilesJudged slots logD 1 r → (r ≡ 0 → ⊥) → RuleJudged slots logD rule r
 tiles-refuse {slots} {logD} rule t n =
     record {
-      answer = tiles-first t ((ltb (shiftLimit rule (2 ^ logD)) (shiftOf rule), 6) ∷ []) n;
+      answer = tiles-first t ((noShift logD rule, 6) ∷ []) n;
       low = λ h. absurd (n h);
       ruled = λ h. absurd (n h);
     }
 
 module _ {slots logD r d most k : ℕ} (rule : Rule) (t : TilesJudged slots logD 1 r) (z : r ≡ 0) (s : d ≡ 2 ^ logD) (m : most ≡ shiftLimit rule d) (e : k ≡ shiftOf rule) where
-  past-tiles : firstOf (ruleRefusals slots logD rule) ≡ pick (ltb (shiftLimit rule (2 ^ logD)) (shiftOf rule)) 6 0
-  past-tiles = tiles-later t ((ltb (shiftLimit rule (2 ^ logD)) (shiftOf rule), 6) ∷ []) z
+  past-tiles : firstOf (ruleRefusals slots logD rule) ≡ pick (noShift logD rule) 6 0
+  past-tiles = tiles-later t ((noShift logD rule, 6) ∷ []) z
 
   pub shift-refuses : most < k → RuleJudged slots logD rule 6
   shift-refuses l = record { answer = sym (past-tiles ∙ rw (← s, ← m, ← e, lt-ltb most k l)); low = λ h. absurd (suc-ne-zero 5 h); ruled = λ h. absurd (suc-ne-zero 5 h) }

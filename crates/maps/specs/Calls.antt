@@ -43,12 +43,15 @@ pub record ShrunkWritten (e : ℕ) (whole : List Diagonal) (pairs₀ pairs₁ va
   pub pairs : pairs₁ ≡ onAccept e (inFront (pairWords (shrunk whole)) pairs₀) pairs₀
   pub values : values₁ ≡ onAccept e (inFront (freeBehind (length (valueWords whole)) (valueWords (shrunk whole)) values₁) values₀) values₀
 
--- the maps that read one entry or none
+-- the maps that read one entry or none: the shift exceeds the rule's limit
+abbrev pub noShift : ℕ → Rule → Bool
+noShift logD rule = ltb (shiftLimit rule (2 ^ logD)) (shiftOf rule)
+
 abbrev pub ruleRefusal : ℕ → ℕ → Rule → List ℕ → List ℕ → ℕ
 ruleRefusal slots logD rule pairs values =
     firstOf
     (tileRefusals slots logD 1
-    ++ (ltb (shiftLimit rule (2 ^ logD)) (shiftOf rule), 6)
+    ++ (noShift logD rule, 6)
     ∷ mapRoom (wholeMap modulus slots (2 ^ logD) rule) pairs values)
 
 abbrev pub RuleWritten : ℕ → ℕ → Rule → List ℕ → List ℕ → List ℕ → List ℕ → Answer → Type 0

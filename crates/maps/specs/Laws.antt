@@ -4,6 +4,7 @@ pub mod Terms
 pub mod Readings
 pub mod Sums
 pub mod Stages
+pub mod Rotations
 pub mod Replicated
 pub mod Values
 pub mod Tiling

@@ -35,16 +35,19 @@ reads (ColsRight k) d r c = reading (leb d (c + k)) r (c + k - d)
 reads (RowsLeft k) d r c = reading (ltb (c + k) d) ((r + k) % d) c
 reads (RowsRight k) d r c = reading (leb d (c + k)) ((r + k) % d) c
 
--- the terms of output t of a matrix slot whose outputs read so, each of weight 1
-abbrev pub termsBy : (ℕ → ℕ → List Entry) → ℕ → ℕ → List Term
-termsBy read d t = map (λ e. record { i = t; j = place d e; w = 1 }) (read (entryOf d t .row) (entryOf d t .col))
+-- where outputs read so: the terms of output t of a matrix slot, each of weight 1, and those of all outputs
+abbrev pub termsAt : (ℕ → ℕ → List Entry) → ℕ → ℕ → List Term
+termsAt read d t = map (λ e. record { i = t; j = place d e; w = 1 }) (read (entryOf d t .row) (entryOf d t .col))
 
+abbrev pub termsBy : (ℕ → ℕ → List Entry) → ℕ → List Term
+termsBy read d = join (termsAt read d) (tabulate (d * d) (λ t. t))
+
+-- those of a rule
 abbrev pub readTerms : Rule → ℕ → ℕ → List Term
-readTerms rule d t = termsBy (reads rule d) d t
+readTerms rule d t = termsAt (reads rule d) d t
 
--- those of all outputs
 abbrev pub ruleTerms : Rule → ℕ → List Term
-ruleTerms rule d = join (readTerms rule d) (tabulate (d * d) (λ t. t))
+ruleTerms rule d = termsBy (reads rule d) d
 
 -- the map before it shrinks: stored at d²
 unfoldable pub wholeMap : ℕ → ℕ → ℕ → Rule → List Diagonal

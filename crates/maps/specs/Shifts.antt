@@ -6,8 +6,6 @@ use mathlib.Core.Bool.{Bool, true, false}
 use mathlib.Core.List.{List, [], _∷_, _++_}
 use lib.Dec.{ltb}
 use Rattle.ring.specs.Slots.{modulus}
-use Rattle.ring.specs.Lists.{join}
-use Rattle.ring.specs.Vectors.{tabulate}
 use Rattle.ring.specs.Refusals.{firstOf}
 use Rattle.ring.specs.declared.Answer.{Answer}
 use Rattle.diagonals.specs.Maps.{Diagonal}
@@ -29,15 +27,11 @@ abbrev pub furtherOn : Bool → ℕ → ℕ → Entry → Entry
 furtherOn true k d e = record { row = (e .row + k) % d; col = e .col }
 furtherOn false k d e = record { row = e .row; col = (e .col + k) % d }
 
--- the map of what each output reads, before it shrinks
-abbrev pub mapBy : ℕ → ℕ → ℕ → (ℕ → ℕ → List Entry) → List Diagonal
-mapBy m slots d read = slotMap m slots (d * d) (join (termsBy read d) (tabulate (d * d) (λ t. t)))
-
 -- ---- before A2
 
--- the map
+-- the map, before it shrank
 abbrev pub mapBefore : ℕ → ℕ → ℕ → Bool → ℕ → List Diagonal
-mapBefore m slots d rows k = mapBy m slots d (λ r c. furtherOn rows k d (record { row = r; col = c }) ∷ [])
+mapBefore m slots d rows k = slotMap m slots (d * d) (termsBy (λ r c. furtherOn rows k d (record { row = r; col = c }) ∷ []) d)
 
 -- and the call
 abbrev pub refusalBefore : ℕ → ℕ → Bool → ℕ → List ℕ → List ℕ → ℕ

@@ -25,24 +25,18 @@ use Rattle.maps.specs.declared.rules.Product.the-variants.{LeftMul}
 use Rattle.maps.specs.Entries.{Entry, InMatrix, place, entryOf, slotOf, entryAt, publicAt}
 use Rattle.maps.specs.Readings.{reads, ruleMap, Replicated, tauRep, rotateRowsRep}
 use Rattle.maps.specs.Sums.{factors, productMap, summand, leftMulRep}
+use Rattle.maps.specs.Shifts.{furtherOn}
 use Rattle.maps.specs.Laws.Entries.{place-of-slot, slot-low, entry-inside, slot-is, slot-inside}
 use Rattle.maps.specs.Laws.Terms.{sum-table, sum-same, sum-turned}
 use Rattle.maps.specs.Laws.Readings.{ruleMap-at}
 use Rattle.maps.specs.Laws.Sums.{productMap-at}
 use Rattle.maps.specs.Laws.Stages.{one-sum}
+use Rattle.maps.specs.Laws.Rotations.{on-inside, product-on}
 
-module _ (d : ℕ) (e : Entry) (h : InMatrix d e) (k : ℕ) where
-  -- the entry k rows below, gone round
-  abbrev below : Entry
-  below = record { row = (e .row + k) % d; col = e .col }
-
-  below-inside : InMatrix d below
-  below-inside = record { row-low = mod-lt (e .row + k) (omega (arith, h .row-low)); col-low = h .col-low }
-
-  -- k rows further on, perhaps in a later matrix slot
-  rows-on : (s : ℕ) → s * (d * d) + place d e + k * d ≡ (s + (e .row + k) / d) * (d * d) + place d below
-  rows-on s =
-      omega (arith, add-mul s ((e .row + k) / d) (d * d), ap (λ (x : ℕ). x * d) (div-add-mod' (e .row + k) d), add-mul (e .row) k d, add-mul ((e .row + k) / d * d) ((e .row + k) % d) d, mul-assoc ((e .row + k) / d) d d)
+-- k rows further on, perhaps in a later matrix slot
+rows-on : (d : ℕ) (e : Entry) (k s : ℕ) → s * (d * d) + place d e + k * d ≡ (s + (e .row + k) / d) * (d * d) + place d (furtherOn true k d e)
+rows-on d e k s =
+    omega (arith, add-mul s ((e .row + k) / d) (d * d), ap (λ (x : ℕ). x * d) (div-add-mod' (e .row + k) d), add-mul (e .row) k d, add-mul ((e .row + k) / d * d) ((e .row + k) % d) d, mul-assoc ((e .row + k) / d) d d)
 
 -- the values of diagonal j·d of `left_mul_rep`
 abbrev diagonal : ℕ → List ℕ → ℕ → ℕ → ℕ
@@ -70,16 +64,16 @@ module _ (slots d : ℕ) (v : d * d ∣ slots) (h : 1 ≤ d) (t : ℕ) (l : t < 
 
   module _ (m : ℕ) (input : List ℕ) (same : Replicated slots d input) where
     -- a rotation by k·d slots reads the row k below in the same matrix slot
-    rows-read : (k : ℕ) → getD input ((t + k * d) % slots) 0 ≡ entryAt d input s (below d e in-matrix k)
+    rows-read : (k : ℕ) → getD input ((t + k * d) % slots) 0 ≡ entryAt d input s (furtherOn true k d e)
     rows-read k =
         same ((t + k * d) % slots) (mod-lt (t + k * d) (omega arith))
         ∙ ap (λ (x : ℕ). getD input x 0)
         (mod-mod-of-dvd (d * d) (t + k * d) v
         ∙ ap (λ (x : ℕ). (x + k * d) % (d * d)) (sym (slot-is d t h))
-        ∙ ap (λ (x : ℕ). x % (d * d)) (rows-on d e in-matrix k s)
-        ∙ place-of-slot d (below d e in-matrix k) (below-inside d e in-matrix k) (s + (e .row + k) / d)
-        ∙ sym (place-of-slot d (below d e in-matrix k) (below-inside d e in-matrix k) s))
-        ∙ sym (same (s * (d * d) + place d (below d e in-matrix k)) (slot-low d (below d e in-matrix k) (below-inside d e in-matrix k) s slots v (slot-inside d t h slots v l)))
+        ∙ ap (λ (x : ℕ). x % (d * d)) (rows-on d e k s)
+        ∙ place-of-slot d (furtherOn true k d e) (on-inside true k d e in-matrix) (s + (e .row + k) / d)
+        ∙ sym (place-of-slot d (furtherOn true k d e) (on-inside true k d e in-matrix) s))
+        ∙ sym (same (s * (d * d) + place d (furtherOn true k d e)) (slot-low d (furtherOn true k d e) (on-inside true k d e in-matrix) s slots v (slot-inside d t h slots v l)))
 
     -- ---- `tau_rep`
 
@@ -105,12 +99,12 @@ module _ (slots d : ℕ) (v : d * d ∣ slots) (h : 1 ≤ d) (t : ℕ) (l : t < 
     tauRep-product =
         tau-reads
         ∙ ap (λ (x : ℕ). x % m) (rows-read (e .col))
-        ∙ sym (ruleMap-at m slots d Tau (omega arith) v input h t l ∙ one-sum m (entryAt d input s (below d e in-matrix (e .col))))
+        ∙ sym (ruleMap-at m slots d Tau (omega arith) v input h t l ∙ one-sum m (entryAt d input s (furtherOn true (e .col) d e)))
 
     -- ---- `rotate_rows_rep`
 
     pub rotateRowsRep-product : (k : ℕ) → product m slots (rotateRowsRep slots d k) input t ≡ product m slots (ruleMap m slots d (RotateRows k)) input t
-    unfolding product rotateRowsRep reads
+    unfolding product rotateRowsRep
     rotateRowsRep-product k =
         one-sum m (term m slots input t (record { offset = k * d % slots; values = 1 ∷ [] }))
         ∙ mulm-mod m (cell (1 ∷ []) t) (getD input ((t + k * d % slots) % slots) 0)
@@ -118,7 +112,7 @@ module _ (slots d : ℕ) (v : d * d ∣ slots) (h : 1 ≤ d) (t : ℕ) (l : t < 
         ∙ one-mulm m (getD input ((t + k * d % slots) % slots) 0)
         ∙ ap (λ (x : ℕ). getD input x 0 % m) (add-mod-mod t (k * d) slots)
         ∙ ap (λ (x : ℕ). x % m) (rows-read k)
-        ∙ sym (ruleMap-at m slots d (RotateRows k) (omega (arith, mod-lt k h)) v input h t l ∙ one-sum m _ ∙ ap (λ (x : ℕ). entryAt d input s (record { row = x; col = e .col }) % m) (add-mod-mod (e .row) k d))
+        ∙ sym (product-on m slots d h v true k input t l)
 
     -- ---- `left_mul_rep`
 

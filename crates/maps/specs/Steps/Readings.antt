@@ -4,15 +4,14 @@ use Prim.Native.Nat.{ℕ, _*_, _^_, _≤_, _<_}
 use mathlib.Core.Path.{_≡_}
 use mathlib.Core.Bool.{Bool}
 use mathlib.Core.List.{List, [], _∷_, _++_, map}
-use lib.Dec.{ltb}
 use Rattle.ring.specs.Searches.{only}
 use Rattle.ring.specs.Slots.{modulus}
 use Rattle.ring.specs.Refusals.{firstOf}
 use Rattle.diagonals.specs.Building.{PlacesOf, SumsOf}
 use Rattle.maps.specs.declared.rules.Rule.{Rule}
 use Rattle.maps.specs.Entries.{place}
-use Rattle.maps.specs.Readings.{reading, reads, ruleTerms, shiftOf, shiftLimit, madeShift}
-use Rattle.maps.specs.Calls.{tileRefusals}
+use Rattle.maps.specs.Readings.{reading, reads, ruleTerms, madeShift}
+use Rattle.maps.specs.Calls.{tileRefusals, noShift}
 use Rattle.maps.specs.Steps.Tiles.{Tiling}
 
 -- an entry of a matrix whose side is small
@@ -49,7 +48,7 @@ pub record RuleSumming (slots d : ℕ) (rule : Rule) (places values : List ℕ) 
 
 -- the refusals of a rule, before the room is known
 abbrev pub ruleRefusals : ℕ → ℕ → Rule → List (Bool × ℕ)
-ruleRefusals slots logD rule = tileRefusals slots logD 1 ++ (ltb (shiftLimit rule (2 ^ logD)) (shiftOf rule), 6) ∷ []
+ruleRefusals slots logD rule = tileRefusals slots logD 1 ++ (noShift logD rule, 6) ∷ []
 
 pub record RuleJudged (slots logD : ℕ) (rule : Rule) (r : ℕ) : Type 0 where
   pub answer : r ≡ firstOf (ruleRefusals slots logD rule)
