@@ -1,5 +1,7 @@
 // Slot arithmetic modulo 2^64, residues and periods (poulpy's diagonals.rs, and gcd_i64 of
 // linear_transformation.rs). Numbers of refusals are those of document 01.
+#![tactic(auto)]
+
 ghost use Rattle.std.specs.Prelude.{◌≡◌, ◌%◌, ◌≤◌, min, length};
 ghost use Rattle.std.specs.Int.Signed.{mag};
 ghost use Rattle.ring.specs.Slots.{modulus, mulm};
