@@ -1,6 +1,8 @@
 // The map store (poulpy's diagonals.rs): a map is slots, a count, u32 pairs (diagonal offset, stored
 // length) with offsets rising strictly, and u64 values back to back. Numbers of refusals are those
 // of document 01.
+#![tactic(auto)]
+
 mod pairs;
 mod reading;
 mod rotation;

@@ -7,7 +7,7 @@ ghost use Rattle.diagonals.specs.Calls.{new_refusal, map_refusal, gotten, Indexe
 ghost use Rattle.diagonals.specs.Steps.Reading.{Stretched, Finding};
 
 // The answer of a call that gives a truth.
-#[derive(Drop)]
+#[derive(Clone, Copy)]
 pub enum Test {
     Refused(u32),
     Is(bool),

@@ -9,15 +9,15 @@ ghost use Rattle.linear_transformation.specs.Calls.{baby_refusal, digit_refusal,
 ghost use Rattle.linear_transformation.specs.Steps.Numbers.{Digitable};
 
 // A rotation, reduced modulo slots.
-#[derive(Drop)]
+#[derive(Clone, Copy)]
 pub struct Rot(pub u32);
 
 // The number of giant steps that a rotation is, negative from half the period on.
-#[derive(Drop)]
+#[derive(Clone, Copy)]
 pub struct Digit(pub i64);
 
 // The answer of a call that gives a digit.
-#[derive(Drop)]
+#[derive(Clone, Copy)]
 pub enum DigitAnswer {
     Refused(u32),
     Is(Digit),

@@ -32,7 +32,7 @@ pub use rotations::{BsgsRotations, PassesAnswer, TreeAnswer};
 pub use stored::{NeedsAnswer, plan_needs, plan_records, stored_plan};
 pub use widths::optimal_bsgs_giant_step;
 
-#[derive(Drop)]
+#[derive(Clone, Copy)]
 pub enum LinearTransformationStrategy {
     Bsgs { giant_step: usize },
     BsgsPowersOfTwo { giant_step: usize },

@@ -7,7 +7,7 @@ use crate::rotations::TreeAnswer;
 
 // A pair: the odd node, and whether node odd - 1 is there.
 #[repr(C)]
-#[derive(Drop)]
+#[derive(Clone, Copy)]
 pub struct PairRecord {
     pub odd: u32,
     pub even_there: bool,

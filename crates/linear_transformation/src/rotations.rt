@@ -3,7 +3,7 @@ ghost use Rattle.linear_transformation.specs.Steps.Numbers.{StepsJudged};
 ghost use Rattle.linear_transformation.specs.declared.rotations.BsgsRotations.TheVariants.{PowersOfTwo};
 
 // One key for each rotation, or the keys of the power-of-two multiples of the two steps.
-#[derive(Drop)]
+#[derive(Clone, Copy)]
 pub enum BsgsRotations {
     PerRotation,
     PowersOfTwo {
@@ -14,14 +14,14 @@ pub enum BsgsRotations {
 }
 
 // The numbers of passes and moves.
-#[derive(Drop)]
+#[derive(Clone, Copy)]
 pub enum PassesAnswer {
     Refused(u32),
     Is { passes: u32, moves: usize },
 }
 
 // b and the number of pairs of all levels; per rotation there is no tree.
-#[derive(Drop)]
+#[derive(Clone, Copy)]
 pub enum TreeAnswer {
     Refused(u32),
     NoTree,

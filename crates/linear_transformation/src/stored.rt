@@ -19,7 +19,7 @@ use crate::records::{PairRecord, write_answer};
 use crate::rotations::TreeAnswer;
 
 // The numbers of babies, giants, pairs and switches, the baby step and b of the tree (0 per rotation).
-#[derive(Drop)]
+#[derive(Clone, Copy)]
 pub enum NeedsAnswer {
     Refused(u32),
     Is {

@@ -9,14 +9,14 @@ ghost use Rattle.map_file.specs.Steps.{Headed, PairsJudged, FileJudged};
 use crate::numbers::{u32_at, u64_at};
 
 // The answer of reading a file: the map's slots and its number of pairs.
-#[derive(Drop)]
+#[derive(Clone, Copy)]
 pub enum FileMap {
     Refused(u32),
     Is { slots: usize, count: usize },
 }
 
 // The room that a file's map needs, in words of pairs and in values.
-#[derive(Drop)]
+#[derive(Clone, Copy)]
 pub enum FileRoom {
     Refused(u32),
     Is { pairs: usize, values: usize },

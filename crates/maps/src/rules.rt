@@ -1,7 +1,7 @@
 // The matrix maps of document 01 by value.
 
 // The maps whose output (r, c) reads one entry or none, in every matrix slot alike.
-#[derive(Drop)]
+#[derive(Clone, Copy)]
 pub enum Rule {
     Sigma,
     Tau,
@@ -17,7 +17,7 @@ pub enum Rule {
 }
 
 // The maps whose output (r, c) sums d entries times entries of public matrices.
-#[derive(Drop)]
+#[derive(Clone, Copy)]
 pub enum Product {
     RightMul,
     LeftMul,

@@ -14,7 +14,7 @@ ghost use Rattle.ring.specs.Calls.{IsOutside, MarksCounted, lcm_refusal, period_
 ghost use Rattle.ring.specs.Steps.{Divided, Stripped, Reduced};
 
 // The answer of a call that gives one number.
-#[derive(Drop)]
+#[derive(Clone, Copy)]
 pub enum Answer {
     Refused(u32),
     Is(usize),

@@ -18,7 +18,7 @@ use linear_transformation::{LinearTransformationStrategy, NeedsAnswer, PairRecor
 
 // How many switches were made and whether these are all; how many babies, giants and diagonals the plan
 // has, and how many pairs its tree.
-#[derive(Drop)]
+#[derive(Clone, Copy)]
 pub enum KeyedAnswer {
     Refused(u32),
     Is {

@@ -7,7 +7,7 @@ ghost use Rattle.sibukyaran.specs.Numbers.{told, told_room, told_map, Told, File
 // A refusal (0: none), and the room that a file's map needs, in words of pairs and in values (0 where
 // refused).
 #[repr(C)]
-#[derive(Drop)]
+#[derive(Clone, Copy)]
 pub struct FileRoomNumbers {
     pub refusal: u32,
     pub pairs: usize,
@@ -16,7 +16,7 @@ pub struct FileRoomNumbers {
 
 // A refusal (0: none), and a map's slots and number of pairs (0 where refused).
 #[repr(C)]
-#[derive(Drop)]
+#[derive(Clone, Copy)]
 pub struct FileMapNumbers {
     pub refusal: u32,
     pub slots: usize,

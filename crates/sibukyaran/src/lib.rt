@@ -19,7 +19,7 @@ ghost use Rattle.sibukyaran.specs.Numbers.{told, told_truth, told_digit, told_pl
 
 // A refusal (0: none) and a value (0 where refused).
 #[repr(C)]
-#[derive(Drop)]
+#[derive(Clone, Copy)]
 pub struct Numbers {
     pub refusal: u32,
     pub value: usize,
@@ -27,7 +27,7 @@ pub struct Numbers {
 
 // A refusal (0: none) and a truth (false where refused).
 #[repr(C)]
-#[derive(Drop)]
+#[derive(Clone, Copy)]
 pub struct Truth {
     pub refusal: u32,
     pub value: bool,
@@ -35,7 +35,7 @@ pub struct Truth {
 
 // A refusal (0: none) and a digit (0 where refused).
 #[repr(C)]
-#[derive(Drop)]
+#[derive(Clone, Copy)]
 pub struct SignedDigit {
     pub refusal: u32,
     pub value: i64,
@@ -43,7 +43,7 @@ pub struct SignedDigit {
 
 // A refusal (0: none), and the numbers of babies, giants and diagonals (0 where refused).
 #[repr(C)]
-#[derive(Drop)]
+#[derive(Clone, Copy)]
 pub struct PlanNumbers {
     pub refusal: u32,
     pub babies: u32,
@@ -53,7 +53,7 @@ pub struct PlanNumbers {
 
 // A refusal (0: none), and the numbers of passes and moves (0 where refused).
 #[repr(C)]
-#[derive(Drop)]
+#[derive(Clone, Copy)]
 pub struct PassNumbers {
     pub refusal: u32,
     pub passes: u32,
@@ -62,7 +62,7 @@ pub struct PassNumbers {
 
 // A refusal (0: none), and the bits and pairs of a tree (0 where refused, and where there is none).
 #[repr(C)]
-#[derive(Drop)]
+#[derive(Clone, Copy)]
 pub struct TreeNumbers {
     pub refusal: u32,
     pub bits: u32,
@@ -72,7 +72,7 @@ pub struct TreeNumbers {
 // A refusal (0: none), the switches made and whether they are all, and the numbers of babies, giants,
 // diagonals and pairs (0 and false where refused).
 #[repr(C)]
-#[derive(Drop)]
+#[derive(Clone, Copy)]
 pub struct KeyedNumbers {
     pub refusal: u32,
     pub switches: usize,
