@@ -1,6 +1,6 @@
 -- Laws of the words of a map: what well formed means, where values stand, which diagonal is found.
 -- Assumes nothing.
-use Rattle.std.specs.Prelude.{◌≡◌, ℕ, zero, suc, ◌+◌, ◌<◌, ◌≤◌, Bool, true, ◌&&◌, ◌⊎◌, List, [], ◌∷◌, ◌++◌, map, length, take, drop, ◌==◌, ◌≢◌, nat_le, nat_lt, refl}
+use Rattle.std.specs.Prelude.{◌≡◌, ℕ, zero, suc, ◌+◌, ◌<◌, ◌≤◌, Bool, true, ◌&&◌, ◌⊎◌, List, [], ◌∷◌, ◌++◌, length, take, drop, ◌==◌, ◌≢◌, nat_le, nat_lt, refl}
 use Rattle.std.specs.Int.{◌∣◌}
 use Rattle.std.proofs.Common.{sym, ◌∙◌, inl, inr, eq-or-lt_of_le, not-suc-le-zero, le_of_suc-le-suc, le_of_eq, le_trans, add-one, arith, eq-eqb, ne_eqb, eqb-true, lt-ltb, le-leb, ltb-true, leb-true, length-take, length-drop}
 use Rattle.std.proofs.Math.Path.{ap}

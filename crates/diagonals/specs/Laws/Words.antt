@@ -1,6 +1,6 @@
 -- Laws of a map as words: its words and its view are inverse, and well-formed words are those of a well-formed map.
 -- Assumes nothing.
-use Rattle.std.specs.Prelude.{◌≡◌, ℕ, zero, suc, ◌+◌, ◌-◌, ◌<◌, ◌≤◌, true, List, [], ◌∷◌, ◌++◌, map, length, take, drop}
+use Rattle.std.specs.Prelude.{◌≡◌, ℕ, zero, suc, ◌+◌, ◌-◌, ◌<◌, ◌≤◌, true, List, [], ◌∷◌, ◌++◌, length, take, drop}
 use Rattle.std.proofs.Math.Path.{refl, sym, ap}
 use Rattle.std.proofs.Common.{◌∙◌, add-one, le_trans, not-suc-le-zero, le_of_suc-le-suc, le-leb, length-append, take-add}
 use mathlib.Core.List.{append_assoc, append-nil}
@@ -116,7 +116,7 @@ module _ (d : Diagonal) (pairs : List ℕ) where
 module _ (p v : List ℕ) where
   -- a map is the view of its words, whatever stands behind them
   pub view_words : (ds : List Diagonal) → view (length ds) (pair_words ds ++ p) (value_words ds ++ v) ≡ ds
-  unfolding view pair_words value_words
+  unfolding view pair_words value_words offset_at length_at pair_of
   view_words [] = refl
   view_words (d ∷ ds) =
       let n : ℕ = length ds in
