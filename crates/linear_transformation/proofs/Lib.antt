@@ -19,5 +19,3 @@ pub mod Keyings
 pub mod KeyAnswers
 pub mod Storings
 pub mod Missings
-pub mod Again
-pub mod LocalHeap

@@ -27,7 +27,7 @@ use Rattle.ring.specs.Refusals.{first_refusal, Range}
 use Rattle.ring.specs.Divisors.{divides}
 use Rattle.ring.specs.Laws.Searches.{lt_or_ge}
 use Rattle.ring.specs.Laws.Lists.{each_at}
-use Rattle.ring.specs.Laws.Refusals.{inside, first_refused, first_later}
+use Rattle.ring.specs.Laws.Refusals.{first_refused, first_later}
 use Rattle.ring.specs.Laws.Residues.{residue_lt}
 use Rattle.linear_transformation.specs.declared.digits.Digit.{Digit}
 use Rattle.linear_transformation.specs.declared.rotations.BsgsRotations.TheVariants.{PowersOfTwo}

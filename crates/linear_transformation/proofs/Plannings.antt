@@ -12,16 +12,15 @@ use native.Mathlib.Omega.{arith}
 use lib.Dec.{eqb}
 use lib.ListN.{length, get_or, set, take, length-set, length-append, take-append-drop, drop}
 use lib.Seq.{take-suc, take_all}
-use Rattle.ring.specs.Searches.{below, or_else}
+use Rattle.ring.specs.Searches.{or_else}
 use Rattle.ring.specs.Divisors.{gcd_of, gcd_all}
 use Rattle.ring.specs.Marks.{marks, Unmarked}
 use Rattle.ring.specs.Laws.Lists.{each_at, join_append}
-use Rattle.linear_transformation.specs.Plans.{baby_of, giant_of, babies, giants, plan_pairs, plan_index}
+use Rattle.linear_transformation.specs.Plans.{baby_of, giant_of, giants, plan_pairs, plan_index}
 use Rattle.ring.specs.Lists.{some}
 use Rattle.linear_transformation.specs.Steps.Plans.{Writing, Diagonals, BabiesMarked, StepIs, RunEnd, RunFrom}
 use Rattle.ring.specs.Laws.Members.{some_append}
 use Rattle.linear_transformation.specs.Laws.Plans.{index_babies, giant_baby, giant_le, baby_lt, giant_times}
-use Rattle.linear_transformation.specs.Laws.Closures.{positive}
 use Rattle.linear_transformation.specs.Laws.Runs.{planned_length, pairs_as_words, giants_none, pairs_none, pairs_words_length, multiples_are, Walked, walked_none, walked_more, walked_giants, walked_pairs, giants_part, giants_few}
 use Rattle.linear_transformation.specs.Laws.CommonDivisors.{gcd_all_one, gcd_all_snoc, gcd_low, baby_step_is, or_else_low, or_else_some}
 use Rattle.linear_transformation.proofs.Writings.{writing_none, writing_more, mark_more}

@@ -20,7 +20,6 @@ use Rattle.ring.specs.Laws.Searches.{lt_or_ge}
 use Rattle.ring.specs.Laws.Vectors.{tabulate_add, in_front_more}
 use Rattle.linear_transformation.specs.declared.records.PairRecord.{PairRecord}
 use Rattle.linear_transformation.specs.declared.rotations.TreeAnswer.{TreeAnswer}
-use Rattle.linear_transformation.specs.declared.rotations.TreeAnswer.TheVariants as Grown
 use Rattle.linear_transformation.specs.Steps.Trees.{odd_at, pair_at, heap_pairs, level_pairs}
 use Rattle.linear_transformation.specs.Steps.Records.{level_in, seen_in, CursorFits, heap_records, passed, passed_before, odd_in, pair_in, StepAsked, StepIs, NextAsked, NextIs, bits_in, records_in, WriteAsked, Recorded}
 use Rattle.linear_transformation.specs.Laws.Trees.{level_places}

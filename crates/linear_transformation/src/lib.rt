@@ -1,6 +1,8 @@
 // Strategies of a linear transformation: plans, their babies, keys and switches; baby multiples and giant
 // digits; closure, passes, trees and keys of lists of babies and giants; and the best width (poulpy's
 // linear_transformation.rs). Numbers of refusals are those of document 01.
+#![tactic(auto)]
+
 mod babies;
 mod digits;
 mod giants;

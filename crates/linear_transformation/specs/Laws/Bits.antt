@@ -8,7 +8,6 @@ use Rattle.std.proofs.Math.Decide.{ℕ_discrete}
 use Rattle.std.proofs.Math.Dec.{leb-suc-suc}
 use Rattle.std.specs.Int.Signed.{mag, le_z, lt_z}
 use Rattle.ring.specs.Lists.{Each}
-use Rattle.ring.specs.Searches.{least}
 use Rattle.ring.specs.Laws.Searches.{Found, least_found, first, second, both}
 use Rattle.linear_transformation.specs.declared.digits.Rot.{Rot}
 use Rattle.linear_transformation.specs.declared.digits.Digit.{Digit}

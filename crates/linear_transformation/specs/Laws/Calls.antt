@@ -1,7 +1,7 @@
 -- What answers say: the refusal and the numbers that they were made of. What an accepted call means: a baby is its multiple
 -- times the step, and a giant its digit times the step, modulo slots.
 -- Assumes nothing.
-use Rattle.std.specs.Prelude.{ℕ, zero, suc, ◌*◌, ◌%◌, ◌^◌, ◌<◌, ◌≡◌, refl, Bool, true, false, not, ◌||◌, ltb, ℤ, pos, negsuc, ◌*ℤ◌, [], ◌∷◌}
+use Rattle.std.specs.Prelude.{ℕ, zero, suc, ◌*◌, ◌%◌, ◌^◌, ◌<◌, ◌≡◌, refl, Bool, true, false, ◌||◌, ltb, ℤ, pos, negsuc, ◌*ℤ◌, [], ◌∷◌}
 use Rattle.std.proofs.Common.{ap, true≢false, suc-ne-zero, div-add-mod', arith, eqb-true}
 use Rattle.std.proofs.lemmas.Bool.{not-false}
 use Rattle.std.specs.Int.Signed.{mag}

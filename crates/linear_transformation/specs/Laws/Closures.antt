@@ -1,10 +1,9 @@
 -- Laws of top bits, of what clearing them meets, and of the closure: for any number of bits and any list of multiples.
 -- Assumes nothing.
 use Rattle.std.specs.Prelude.{ℕ, zero, suc, ◌*◌, ◌^◌, ◌≤◌, ◌<◌, ◌≡◌, refl, Bool, true, false, ◌⊎◌, List, ◌++◌, leb, eqb}
-use Rattle.std.proofs.Common.{sym, true≢false, inl, inr, ⊎_elim, not-suc-le-zero, le_refl, mul-lt-mul_of_pos_right, arith, eqb-true, leb-true, le-leb, pow_mono}
+use Rattle.std.proofs.Common.{sym, subst, true≢false, inl, inr, ⊎_elim, not-suc-le-zero, le_refl, mul-lt-mul_of_pos_right, arith, eqb-true, leb-true, le-leb, pow_mono}
 use Rattle.std.proofs.Math.Pow.{pow_pos}
 use Rattle.ring.specs.Lists.{join, Each, Rising, among}
-use Rattle.ring.specs.Searches.{below, only}
 use Rattle.ring.specs.Laws.Searches.{by_false, lt_or_ge, greatest_is}
 use Rattle.ring.specs.Laws.Lists.{rising_map}
 use Rattle.ring.specs.Laws.Below.{below_ext, below_low, below_rising}
@@ -85,7 +84,7 @@ cleared_in (suc n) (suc k) m l h q =
     let d = cleared_lower (suc k) (omega arith) in
     right (eqb (suc k) (cleared m))
     (⊎_elim
-    (λ a. let e : m ≡ suc k = sym (eqb-true (suc k) m a) in let o : 1 ≤ cleared (suc k) = rw (← e) q in rw e (own_in n (cleared (suc k)) (omega arith) o))
+    (λ a. let e : m ≡ suc k = sym (eqb-true (suc k) m a) in let o : 1 ≤ cleared (suc k) = rw (← e) q in subst (λ (x : ℕ). among (cleared x) (met_in n (cleared (suc k))) ≡ true) (sym e) (own_in n (cleared (suc k)) (omega arith) o))
     (λ a. cleared_in n (cleared (suc k)) m (omega arith) a q)
     (one_of (eqb (suc k) m) _ h))
 

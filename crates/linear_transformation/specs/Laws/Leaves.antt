@@ -4,7 +4,7 @@
 use Prim.Native.Nat.{ℕ, zero, suc, ◌+◌, ◌*◌, ◌-◌, ◌/◌, ◌%◌, ◌^◌, ◌≤◌, ◌<◌}
 use Rattle.std.specs.Prelude.{◌≡◌, refl, List, [], ◌∷◌, map, ℤ, neg_ℤ, ◌+ℤ◌, ◌*ℤ◌}
 use Rattle.std.proofs.Math.Path.{sym, ap}
-use Rattle.std.proofs.Common.{◌∙◌, not-suc-le-zero, le_refl, lt_of_mul-lt-mul_right, mul-div_cancel, zero-mul, one-mul, add-zero, mul_assoc, eq-eqb, ne_eqb, pow_pos}
+use Rattle.std.proofs.Common.{◌∙◌, subst, not-suc-le-zero, le_refl, lt_of_mul-lt-mul_right, mul-div_cancel, zero-mul, one-mul, add-zero, mul_assoc, eq-eqb, ne_eqb, pow_pos}
 use Rattle.std.proofs.Math.Nat.{mod-eq_of_lt, eq_of_mul-eq-mul_right, mul-mod_left, div-eq_of_lt, pow-succ', mod-one, zero-mod, mod-add-mod, add-mod-mod}
 use native.Mathlib.Omega.{arith}
 use Rattle.std.proofs.Math.Arith.{mod-mul}
@@ -111,8 +111,9 @@ module _ (c : ℕ) where
   sum_negative m h =
       let d = 2 ^ c - suc m in
       let e : 2 ^ suc c - suc m ≡ 1 * 2 ^ c + d = omega arith in
-      rw (e, sum_low c (1 * 2 ^ c + d) c (le_refl c), level_top c, Pow.high 1 c {lo = d} (omega arith), Pow.low 1 c {lo = d} (omega arith), one_of (2 ^ c))
-      (minus d (2 ^ c) (omega arith) ∙ ap negsuc (omega arith))
+      subst (λ (x : ℕ). bit_sum (suc c) x (suc c) ≡ negsuc m) (sym e)
+      (rw (sum_low c (1 * 2 ^ c + d) c (le_refl c), level_top c, Pow.high 1 c {lo = d} (omega arith), Pow.low 1 c {lo = d} (omega arith), one_of (2 ^ c))
+      (minus d (2 ^ c) (omega arith) ∙ ap negsuc (omega arith)))
 
   -- the bits of a leaf, the top one negative, make the digit
   pub leaf_bits : (d : Digit) → mag d.0 < 2 ^ c → bit_sum (suc c) (leaf (suc c) d) (suc c) ≡ d.0

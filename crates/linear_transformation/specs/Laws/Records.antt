@@ -4,7 +4,6 @@
 use Rattle.std.specs.Prelude.{ℕ, zero, suc, ◌-◌, ◌%◌, ◌^◌, ◌<◌, ◌≡◌, refl, true, ◌||◌, List, [], ◌∷◌, ◌++◌, map, eqb, length}
 use Rattle.std.proofs.Common.{ap, ap₂, ◌∙◌, arith}
 use Rattle.ring.specs.Lists.{join, some, among, Each, Rising}
-use Rattle.ring.specs.Searches.{below}
 use Rattle.ring.specs.Vectors.{tabulate}
 use Rattle.ring.specs.Laws.Below.{below_ext, below_none}
 use Rattle.ring.specs.Laws.Members.{rising_below}

@@ -4,7 +4,7 @@
 use Prim.Native.Nat.{ℕ, zero, suc, ◌+◌, ◌*◌, ◌/◌, ◌≤◌, ◌<◌, ◌∣◌, zero-le}
 use Rattle.std.specs.Prelude.{◌≡◌, refl, Bool, false, not, eqb, pos, nat_abs}
 use Rattle.std.proofs.Math.Path.{sym, ap}
-use Rattle.std.proofs.Common.{◌∙◌, true≢false, ⊎_elim, suc-ne-zero, arith, ne_eqb, eqb-true, le→leb}
+use Rattle.std.proofs.Common.{◌∙◌, subst, true≢false, ⊎_elim, suc-ne-zero, arith, ne_eqb, eqb-true, le→leb}
 use Rattle.std.proofs.Math.Bool.{true}
 use mathlib.Core.List.Memᴰ
 use mathlib.Core.List.{List, [], ◌∷◌, ◌++◌, map, map-map, map-id, Memᴰ}
@@ -101,7 +101,7 @@ mem_pos k (x ∷ xs) h = ⊎_elim (λ a. Memᴰ.head (ap pos (sym (eqb-true x k 
 
 pos_mem : (k : ℕ) (xs : List ℕ) → Memᴰ (pos k) (map pos xs) → among k xs ≡ true
 pos_mem k [] m = absurd (Memᴰ.not-nil m)
-pos_mem k (x ∷ xs) m = ⊎_elim (λ (e : pos k ≡ pos x). let d : k ≡ x = ap nat_abs e in rw d (among_head x xs)) (λ t. right (eqb x k) (pos_mem k xs t)) (Memᴰ.cases_cons m)
+pos_mem k (x ∷ xs) m = ⊎_elim (λ (e : pos k ≡ pos x). let d : k ≡ x = ap nat_abs e in subst (λ (y : ℕ). among y (x ∷ xs) ≡ true) (sym d) (among_head x xs)) (λ t. right (eqb x k) (pos_mem k xs t)) (Memᴰ.cases_cons m)
 
 between : (ks : List ℕ) → NoGap (map pos ks) → (x y z : ℕ) → among x ks ≡ true → among y ks ≡ true → x ≤ z → z ≤ y → among z ks ≡ true
 between ks gap x y z a b l h = pos_mem z ks (gap (pos x) (pos y) (pos z) (mem_pos x ks a) (mem_pos y ks b) (record { le = le→leb x z l }) (record { le = le→leb z y h }))

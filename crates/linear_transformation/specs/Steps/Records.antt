@@ -1,6 +1,6 @@
 -- What the steps that turn a heap into pair records ask and ensure.
 -- Assumes nothing. A cursor is a level and how many of its odd nodes have been looked at: level · 131072 + seen.
-use Rattle.std.specs.Prelude.{ℕ, suc, ◌+◌, ◌*◌, ◌-◌, ◌/◌, ◌%◌, ◌^◌, ◌≤◌, ◌<◌, ◌≡◌, Bool, true, false, List, [], ◌∷◌, ◌++◌, ℤ, length}
+use Rattle.std.specs.Prelude.{ℕ, suc, ◌*◌, ◌-◌, ◌/◌, ◌%◌, ◌^◌, ◌≤◌, ◌<◌, ◌≡◌, Bool, true, false, List, [], ◌∷◌, ◌++◌, ℤ, length}
 use Rattle.ring.specs.Lists.{join}
 use Rattle.ring.specs.Vectors.{tabulate, in_front}
 use Rattle.linear_transformation.specs.declared.records.PairRecord.{PairRecord}

@@ -1,0 +1,6 @@
+-- `linear_transformation::giants::mark_leaves` meets its contract. Assumes nothing.
+use Rattle.linear_transformation.proofs.Listings.{Marking}
+use Rattle.linear_transformation.proofs.giants.mark_leaves.Given as goal
+
+abbrev pub invariant-loop-t : goal.invariant-loop-t
+invariant-loop-t l = Marking l.slots l.step l.bits l.giants l.heap l.t

@@ -1,0 +1,29 @@
+-- `linear_transformation::heap::write_keys` meets its contract. Assumes nothing.
+use borrow.Author.Rules.{rules}
+use Prim.Native.Nat.{◌<◌}
+use native.Mathlib.Omega.{arith}
+use lib.ListN.{length}
+use Rattle.linear_transformation.proofs.Writing.{writing_none, writing_room, writing_yes, writing_no}
+use Rattle.linear_transformation.proofs.heap.write_keys.Goals as goal
+use Rattle.linear_transformation.proofs.heap.write_keys.Goals.{else-level_size-ne0, then-level_size-ne0}
+
+pub loop-i-init : goal.loop-i-init
+loop-i-init c = rw c.power-size.ensures (writing_none _ _ _ _ _ _ c.requires.bits_in_bounds)
+
+pub offset_bounds-out-to : goal.offset_bounds-out-to
+offset_bounds-out-to c =
+    let room : c.loop-i.to < length c.args.out.now = search (writing_room, rules) in
+    omega (arith, room)
+
+pub bounds-out-to : goal.bounds-out-to
+bounds-out-to c =
+    let room : c.loop-i.to < length c.args.out.now = search (writing_room, rules) in
+    omega (arith, room, c.loop-i.invariant.len)
+
+pub overflow_add-to : goal.overflow_add-to
+overflow_add-to c =
+    let room : c.loop-i.to < length c.args.out.now = search (writing_room, rules) in
+    omega (arith, room)
+
+pub loop-i-preserved : goal.loop-i-preserved
+loop-i-preserved c = elim c.if-level_size-ne0.branch [ then-level_size-ne0 w ↦ rw (w.out-is, w.to-is) (search (writing_yes, rules)) | else-level_size-ne0 w ↦ rw (w.out-is, w.to-is) (search (writing_no, rules)) ]

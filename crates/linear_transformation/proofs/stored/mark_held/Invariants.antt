@@ -1,0 +1,6 @@
+-- `linear_transformation::stored::mark_held` meets its contract. Assumes nothing.
+use Rattle.linear_transformation.proofs.Missings.{Holding}
+use Rattle.linear_transformation.proofs.stored.mark_held.Given as goal
+
+abbrev pub invariant-loop-t : goal.invariant-loop-t
+invariant-loop-t l = Holding l.held l.seen l.t
