@@ -13,7 +13,7 @@ use crate::readings::folded;
 use crate::rules::Product;
 
 // An output slot: its number, where its matrix slot starts, and its entry.
-#[derive(Drop)]
+#[derive(Clone, Copy)]
 struct Output {
     t: usize,
     base: usize,

@@ -1,6 +1,6 @@
 -- Laws of what a builder has written: the next call accepts it and reads the map, so that its product is the map's formula.
 -- Assumes nothing.
-use Rattle.std.specs.Prelude.{◌≡◌, ℕ, ◌+◌, ◌-◌, ◌*◌, ◌^◌, ◌<◌, ◌≤◌, false, not, List, ◌++◌, length, take, drop, ℤ}
+use Rattle.std.specs.Prelude.{◌≡◌, ℕ, ◌+◌, ◌-◌, ◌*◌, ◌^◌, ◌<◌, ◌≤◌, false, List, ◌++◌, length, take, drop, ℤ}
 use Rattle.std.proofs.Common.{sym, ap, ◌∙◌, suc-ne-zero, arith, ltb-false, length-append}
 use mathlib.Core.List.{append_assoc}
 use Rattle.std.proofs.lemmas.List.{length-map}
