@@ -8,7 +8,7 @@ use Rattle.ring.specs.Refusals.{Range}
 use Rattle.ring.specs.Vectors.{in_front, put_at}
 use Rattle.diagonals.specs.Maps.{offsets_of, view}
 use Rattle.linear_transformation.specs.declared.LinearTransformationStrategy.{LinearTransformationStrategy}
-use Rattle.linear_transformation.specs.Plans.{Distinct, Planned, width_of, giants, plan_pairs}
+use Rattle.linear_transformation.specs.Plans.{Distinct, Planned, width_of, plan_pairs}
 use Rattle.linear_transformation.specs.Closures.{nonzeros}
 use Rattle.linear_transformation.specs.Schedules.{plan_babies, plan_giants, plan_words, plan_switches}
 use Rattle.linear_transformation.specs.Stored.{step_of, bits_for}

@@ -9,7 +9,7 @@ use Rattle.std.proofs.lemmas.List.{length-map}
 use Rattle.ring.specs.Slots.{modulus}
 use Rattle.ring.specs.Lists.{Each, among}
 use Rattle.ring.specs.Vectors.{tabulate, in_front}
-use Rattle.ring.specs.Refusals.{pick, first_refusal, Range, outside}
+use Rattle.ring.specs.Refusals.{pick, first_refusal, Range}
 use Rattle.ring.specs.Laws.Refusals.{on_accept_refused, on_accept_accepted, first_later, none_of_both, none_holds, inside}
 use Rattle.ring.specs.Laws.Lists.{each_map}
 use Rattle.ring.specs.Laws.Searches.{lt_or_ge}

@@ -14,7 +14,7 @@ use Rattle.diagonals.specs.Maps.{Diagonal, offsets_of, FormedMap}
 use Rattle.diagonals.specs.Products.{cell, stretch, term, product}
 use Rattle.diagonals.specs.Laws.Matrices.{meets_own}
 use Rattle.linear_transformation.specs.declared.LinearTransformationStrategy.{LinearTransformationStrategy}
-use Rattle.linear_transformation.specs.Plans.{Planned, width_of, baby_of, giant_of, giants, babies_at}
+use Rattle.linear_transformation.specs.Plans.{Planned, width_of, baby_of, giant_of, babies_at}
 use Rattle.linear_transformation.specs.Laws.Plans.{index_diagonals, babies_have, giants_below}
 use Rattle.linear_transformation.specs.Laws.Widths.{distinct_planned}
 use Rattle.linear_transformation.specs.Schedules.{plan_babies, plan_giants}

@@ -18,7 +18,7 @@ use Rattle.ring.specs.Laws.Refusals.{either}
 use Rattle.linear_transformation.specs.declared.LinearTransformationStrategy.{LinearTransformationStrategy}
 use Rattle.linear_transformation.specs.declared.LinearTransformationStrategy.TheVariants.{Bsgs, BsgsPowersOfTwo, Direct}
 use Rattle.linear_transformation.specs.Plans.{giants}
-use Rattle.linear_transformation.specs.Closures.{top_bit, closure, targets, move, pass, pass_of, passes, nonzeros}
+use Rattle.linear_transformation.specs.Closures.{top_bit, closure, targets, move, pass_of, passes, nonzeros}
 use Rattle.linear_transformation.specs.Trees.{Level, tree_switches}
 use Rattle.linear_transformation.specs.Schedules.{baby_step, baby_multiples, plan_babies, plan_tree, giant_switches, plan_switches}
 use Rattle.linear_transformation.specs.Laws.Closures.{top_high, top_within, closure_low, closure_rising}
