@@ -56,6 +56,7 @@ closure_none n width = ap (closure 16) (multiples_none n width) ∙ closure_zero
 
 pub empty_map : (slots : ℕ) → 0 < slots → (strategy : LinearTransformationStrategy) → EmptyMap slots strategy
 unfolding plan_babies plan_keys targets passes top_bit greatest plan_tree tree_of levels_of there nodes pairs_at below tree_keys all_within largest least bits_of plan_passes baby_schedule giant_schedule machine with_nodes with_answer answer_of node_sum
+empty_map zero p strategy = elim p [ ]
 empty_map (suc n) p (Bsgs width) =
     let b = babies_none n width in
     let g = giants_none (suc n) width in
