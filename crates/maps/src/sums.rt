@@ -13,7 +13,7 @@ use crate::readings::folded;
 use crate::rules::Product;
 
 // An output slot: its number, where its matrix slot starts, and its entry.
-#[derive(Drop)]
+#[derive(Clone, Copy)]
 struct Output {
     t: usize,
     base: usize,
@@ -44,7 +44,7 @@ fn spot(base: usize, d: usize, r: usize, c: usize) -> usize
 }
 
 // The entry of the input and that of the public matrix that a summand multiplies.
-#[derive(Drop)]
+#[derive(Clone, Copy)]
 struct Summand {
     j: usize,
     at: usize,

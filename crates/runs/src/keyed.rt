@@ -33,7 +33,7 @@ pub enum KeyedAnswer {
 
 // A refusal, or what the run by a plan takes: its diagonals, babies, giants, pairs and switches, and the
 // baby step and b of the tree (0 where each rotation has its own key).
-#[derive(Drop)]
+#[derive(Clone, Copy)]
 pub(crate) struct Survey {
     pub(crate) refusal: u32,
     pub(crate) diagonals: usize,
