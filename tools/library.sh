@@ -13,7 +13,7 @@ library_sources() {
 
 # Says which crates are proved while a proof goes on, and that it still does.
 watch_proof() { # PID LOG
-    local start=$SECONDS said=0 proved=0 now
+    local start=$SECONDS said=$SECONDS proved=0 now
     while kill -0 "$1" 2>/dev/null; do
         sleep 1
         now=$(grep -c '^logic=proved ' "$2")
@@ -46,7 +46,7 @@ build_library() {
     (cd crates/sibukyaran && exec rt lib) >"$log" 2>&1 &
     watch_proof $! "$log"
     if ! wait $!; then
-        grep -v 'note:' "$log" | tail -n 40
+        grep -vE '^(logic|statements|library|crate|axioms) |note:' "$log" | tail -n 40
         echo "the library is not proved; all that was said is in $log"
         return 1
     fi
