@@ -1,5 +1,7 @@
 // The matrix maps of Jiang, Kim, Lauter and Song (poulpy's maps.rs). Numbers of refusals are those of
 // document 01.
+#![tactic(auto)]
+
 mod named;
 mod per_matrix;
 mod readings;

@@ -1,5 +1,7 @@
 // The plain run (`evaluate` of poulpy's diagonals.rs): a map times an input, slot by slot. Numbers of
 // refusals are those of document 01.
+#![tactic(auto)]
+
 mod answering;
 mod caching;
 mod giants;

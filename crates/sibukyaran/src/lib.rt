@@ -1,5 +1,7 @@
 // The C library: each call of the crates below under a C name (include/sibukyaran.h). An answer
 // comes as its two numbers.
+#![tactic(auto)]
+
 mod files;
 mod keyed;
 mod kinds;
