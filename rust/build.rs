@@ -1,4 +1,4 @@
-//! Links the proved static library, which `rt staticlib sibukyaran` writes to target/staticlib of the repository.
+//! Links the proved static library, which `./run` makes in target/staticlib of the repository (tools/library.sh).
 //! SIBUKYARAN_LIB_DIR names another folder that has it, such as the one that tools/install has filled.
 
 use std::path::PathBuf;
@@ -10,7 +10,7 @@ fn main() {
     let folder = env::var_os("SIBUKYARAN_LIB_DIR").map_or(manifest.join("../target/staticlib"), PathBuf::from);
     let archive = folder.join("libsibukyaran.a");
     if !archive.is_file() {
-        eprintln!("{} is not there: run `rt staticlib sibukyaran` in the repository first", archive.display());
+        eprintln!("{} is not there: run `./run` in the repository first", archive.display());
         process::exit(1);
     }
     println!("cargo:rerun-if-changed={}", archive.display());

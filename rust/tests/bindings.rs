@@ -239,7 +239,7 @@ fn rattle(sources: &[String]) -> Declared {
     for text in sources {
         let text = without_comment_lines(text);
         put_structs(&text, &mut rattle);
-        for exported in text.split("#[no_mangle]").skip(1) {
+        for exported in text.split("#[unsafe(no_mangle)]").skip(1) {
             let declaration = exported.trim_start().strip_prefix("pub extern \"C\" fn ").expect("a function of C");
             let (name, parts) = rust_function(&declaration.replacen(NEW.0, NEW.1, 1));
             rattle.put(format!("function {name}"), parts);
@@ -419,7 +419,7 @@ const RATTLE_CHANGES: [Change; 3] = [
         &["struct PairRecord, part 2: even_there: bool in the header, nothing in Rattle"],
     ),
     (
-        "#[no_mangle]\npub extern \"C\" fn sibukyaran_gcd",
+        "#[unsafe(no_mangle)]\npub extern \"C\" fn sibukyaran_gcd",
         "pub fn gcd",
         &["function sibukyaran_gcd: in the header, not in Rattle"],
     ),

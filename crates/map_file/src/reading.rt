@@ -51,7 +51,7 @@ fn total_in(bytes: &[u8], slots: u32, count: usize) -> ring::Answer
 }
 
 // A refusal, or what a file holds.
-#[derive(Drop)]
+#[derive(Clone, Copy)]
 struct Held {
     refusal: u32,
     slots: usize,

@@ -22,7 +22,7 @@ pub(crate) fn folded(x: usize, d: usize) -> usize
 }
 
 // The place of the entry that an output reads, if it reads one.
-#[derive(Drop)]
+#[derive(Clone, Copy)]
 struct Reading {
     there: bool,
     j: usize,

@@ -44,7 +44,7 @@ fn spot(base: usize, d: usize, r: usize, c: usize) -> usize
 }
 
 // The entry of the input and that of the public matrix that a summand multiplies.
-#[derive(Drop)]
+#[derive(Clone, Copy)]
 struct Summand {
     j: usize,
     at: usize,

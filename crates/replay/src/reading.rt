@@ -1,8 +1,19 @@
 // The numbers of the text on standard input.
+use std::io;
+use std::io::Read;
 
-// Zeros stay behind the text.
-pub(crate) fn read_text(text: &mut [u8; 524288]) {
-    io::read_full(0, text);
+// Zeros stay behind the text. Each turn reads a byte at least, but for the last.
+pub(crate) fn read_text(rt: &impl Input, text: &mut [u8; 524288]) -> io::Result<()> {
+    let mut reader = rt.reader();
+    let mut at = 0;
+    for _ in 0..524288 {
+        let n = reader.read(&mut text[at..])?;
+        if n == 0 {
+            return Ok(());
+        }
+        at += n;
+    }
+    Ok(())
 }
 
 // The byte at `at`; 0 past the end.

@@ -24,10 +24,8 @@ fn put_record(words: &mut [u32; 512], i: usize, r: PairRecord) {
 }
 
 fn copy_words(records: &[PairRecord], words: &mut [u32; 512]) {
-    let mut i: usize = 0;
-    while i < records.len() {
+    for i in 0..records.len() {
         put_record(words, i, records[i]);
-        i += 1;
     }
 }
 

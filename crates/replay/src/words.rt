@@ -10,7 +10,7 @@ pub(crate) fn word_at(words: &[u64], at: usize) -> u64 {
 }
 
 // The first words of a call or of a map: w as they are, i signed, n as sizes.
-#[derive(Drop)]
+#[derive(Clone, Copy)]
 pub(crate) struct Head {
     pub(crate) w0: u64,
     pub(crate) w1: u64,
