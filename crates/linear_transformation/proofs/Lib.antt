@@ -19,3 +19,4 @@ pub mod Keyings
 pub mod KeyAnswers
 pub mod Storings
 pub mod Missings
+pub mod LeafBits

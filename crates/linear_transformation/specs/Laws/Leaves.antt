@@ -1,14 +1,13 @@
--- Laws of leaves and levels: leaves rise with the giants' rotations, the bits of a leaf make its digit, the top one being
--- negative, and the level rotations of these bits make the giant's rotation.
+-- Laws of leaves and levels: leaves rise with the giants' rotations, what the bits below the top one come to, and what the
+-- level rotations of a leaf's bits come to. `proofs/LeafBits` has the laws that rest on the top bit's weight.
 -- Assumes nothing.
 use Prim.Native.Nat.{ℕ, zero, suc, ◌+◌, ◌*◌, ◌-◌, ◌/◌, ◌%◌, ◌^◌, ◌≤◌, ◌<◌}
-use Rattle.std.specs.Prelude.{◌≡◌, refl, List, [], ◌∷◌, map, ℤ, neg_ℤ, ◌+ℤ◌, ◌*ℤ◌}
+use Rattle.std.specs.Prelude.{◌≡◌, refl, List, [], ◌∷◌, map, ℤ, ◌+ℤ◌, ◌*ℤ◌}
 use Rattle.std.proofs.Math.Path.{sym, ap}
-use Rattle.std.proofs.Common.{◌∙◌, subst, not-suc-le-zero, le_refl, lt_of_mul-lt-mul_right, mul-div_cancel, zero-mul, one-mul, add-zero, mul_assoc, eq-eqb, ne_eqb, pow_pos}
-use Rattle.std.proofs.Math.Nat.{mod-eq_of_lt, eq_of_mul-eq-mul_right, mul-mod_left, div-eq_of_lt, pow-succ', mod-one, zero-mod, mod-add-mod, add-mod-mod}
+use Rattle.std.proofs.Common.{◌∙◌, not-suc-le-zero, lt_of_mul-lt-mul_right, mul-div_cancel, zero-mul, mul_assoc, ne_eqb, pow_pos}
+use Rattle.std.proofs.Math.Nat.{mod-eq_of_lt, eq_of_mul-eq-mul_right, mul-mod_left, pow-succ', mod-one, zero-mod, mod-add-mod, add-mod-mod}
 use native.Mathlib.Omega.{arith}
 use Rattle.std.proofs.Math.Arith.{mod-mul}
-use Rattle.std.proofs.Math.Pow as Pow
 use Rattle.std.proofs.Math.IntN.{pos, negsuc}
 use Rattle.std.specs.Int.Signed.{mag}
 use Rattle.ring.specs.Lists.{Each, Rising}
@@ -17,9 +16,8 @@ use Rattle.ring.specs.Slots.{addm, mulm}
 use Rattle.ring.specs.Laws.Slots.{mod_mul_mod, mul_mod_mod}
 use Rattle.ring.specs.Laws.Residues.{residue_pos, residue_sum, residue_mul}
 use Rattle.linear_transformation.specs.declared.digits.Rot.{Rot}
-use Rattle.linear_transformation.specs.declared.digits.Digit.{Digit}
-use Rattle.linear_transformation.specs.Digits.{rot_of, digit, bits_of, leaf, level_digit, level_rotation, Giant}
-use Rattle.linear_transformation.specs.Laws.Digits.{Shape, low, high, shape, minus, digit_turns}
+use Rattle.linear_transformation.specs.Digits.{digit, bits_of, leaf, level_digit, level_rotation, Giant}
+use Rattle.linear_transformation.specs.Laws.Digits.{Shape, low, high, shape}
 use Rattle.linear_transformation.specs.Laws.Bits.{bits_positive, bits_small}
 
 -- ---- the leaf of a digit in the range of b = c + 1
@@ -80,64 +78,20 @@ level_low : (c i : ℕ) → i < c → (level_digit (suc c) i).0 ≡ pos (2 ^ i)
 unfolding level_digit
 level_low c i h = rw (ne_eqb (suc i) (suc c) (λ e. omega arith))
 
--- the top one is negative
-pub level_top : (c : ℕ) → (level_digit (suc c) c).0 ≡ neg_ℤ (pos (2 ^ c))
-unfolding level_digit
-level_top c = rw (eq-eqb (suc c) (suc c) refl)
-
 low_bits : (l i : ℕ) → l % 2 ^ suc i ≡ (l / 2 ^ i % 2) * 2 ^ i + l % 2 ^ i
 low_bits l i = rw (pow-succ' 2 i) (mod-mul l (omega arith) (pow_pos i))
 
-sum_low : (c l i : ℕ) → i ≤ c → bit_sum (suc c) l i ≡ pos (l % 2 ^ i)
+pub sum_low : (c l i : ℕ) → i ≤ c → bit_sum (suc c) l i ≡ pos (l % 2 ^ i)
 unfolding bit_sum
 sum_low c l zero h = ap pos (sym (mod-one l))
 sum_low c l (suc i) h = rw (sum_low c l i (omega arith), level_low c i h) (ap pos (omega (arith, low_bits l i)))
 
-none_of : (x : ℕ) → pos 0 *ℤ neg_ℤ (pos x) ≡ pos 0
-none_of zero = refl
-none_of (suc x) = rw (zero-mul (suc x))
-
-one_of : (x : ℕ) → pos 1 *ℤ neg_ℤ (pos x) ≡ neg_ℤ (pos x)
-one_of zero = refl
-one_of (suc x) = rw (one-mul (suc x))
-
-module _ (c : ℕ) where
-  sum_positive : (j : ℕ) → j < 2 ^ c → bit_sum (suc c) j (suc c) ≡ pos j
-  unfolding bit_sum
-  sum_positive j h = rw (sum_low c j c (le_refl c), level_top c, div-eq_of_lt h, mod-eq_of_lt h, none_of (2 ^ c)) (ap pos (add-zero j))
-
-  sum_negative : (m : ℕ) → m < 2 ^ c → bit_sum (suc c) (2 ^ suc c - suc m) (suc c) ≡ negsuc m
-  unfolding bit_sum
-  sum_negative m h =
-      let d = 2 ^ c - suc m in
-      let e : 2 ^ suc c - suc m ≡ 1 * 2 ^ c + d = omega arith in
-      subst (λ (x : ℕ). bit_sum (suc c) x (suc c) ≡ negsuc m) (sym e)
-      (rw (sum_low c (1 * 2 ^ c + d) c (le_refl c), level_top c, Pow.high 1 c {lo = d} (omega arith), Pow.low 1 c {lo = d} (omega arith), one_of (2 ^ c))
-      (minus d (2 ^ c) (omega arith) ∙ ap negsuc (omega arith)))
-
-  -- the bits of a leaf, the top one negative, make the digit
-  pub leaf_bits : (d : Digit) → mag d.0 < 2 ^ c → bit_sum (suc c) (leaf (suc c) d) (suc c) ≡ d.0
-  leaf_bits d h = by d.0 h
-    where
-      by : (z : ℤ) → mag z < 2 ^ c → bit_sum (suc c) (residue_of z (2 ^ suc c)) (suc c) ≡ z
-      by (pos j) h = rw (leaf_low c j h) (sum_positive j h)
-      by (negsuc m) h = rw (leaf_high c m h) (sum_negative m h)
-
 -- ---- the rotations of the levels
-
-opposite : (x s : ℕ) → neg_ℤ (pos x) *ℤ pos s ≡ neg_ℤ (pos (x * s))
-opposite zero s = rw (zero-mul s)
-opposite (suc x) s = refl
 
 module _ (slots step c : ℕ) where
   pub rotation_low : (i : ℕ) → i < c → 0 < slots → (level_rotation slots step (suc c) i).0 ≡ 2 ^ i * step % slots
   unfolding level_rotation
   rotation_low i h p = rw (level_low c i h) (residue_pos (2 ^ i * step) slots p)
-
-  -- the top level's is negative
-  pub rotation_top : level_rotation slots step (suc c) c ≡ rot_of slots (neg_ℤ (pos (2 ^ c * step)))
-  unfolding level_rotation
-  rotation_top = rw (level_top c, opposite (2 ^ c) step)
 
 -- the sum modulo slots of the rotations of the levels below i at which l has a bit
 unfoldable pub rotation_sum : ℕ → ℕ → ℕ → ℕ → ℕ → ℕ
@@ -169,11 +123,3 @@ module _ (slots step b l : ℕ) (p : 0 < slots) where
         residue_pos β slots p,
       )
       (spread slots (residue_of (bit_sum b l i) slots) (residue_of (pos step) slots) β (residue_of d slots))
-
--- the rotations of the levels at which a giant's leaf has a bit make the giant's rotation
-pub leaf_rotations : (slots step c : ℕ) (giant : Rot) → 0 < step → Giant slots step giant → mag (digit slots step giant).0 < 2 ^ c
-    → rotation_sum slots step (suc c) (leaf (suc c) (digit slots step giant)) (suc c) ≡ giant.0
-leaf_rotations slots step c giant s g h =
-    rotation_sum_lem slots step (suc c) (leaf (suc c) (digit slots step giant)) (omega (arith, g.reduced)) (suc c)
-    ∙ ap (λ (z : ℤ). residue_of (z *ℤ pos step) slots) (leaf_bits c (digit slots step giant) h)
-    ∙ digit_turns slots step giant s g

@@ -17,7 +17,8 @@ use Rattle.linear_transformation.specs.Trees.{there, levels_of, tree_of, pairs_a
 use Rattle.linear_transformation.specs.Plans.{Planned, giants}
 use Rattle.linear_transformation.specs.Schedules.{plan_rots, giant_digits, plan_tree}
 use Rattle.linear_transformation.specs.Laws.Bits.{bits_positive, bits_small}
-use Rattle.linear_transformation.specs.Laws.Leaves.{leaves_rise, rotation_sum, leaf_rotations}
+use Rattle.linear_transformation.specs.Laws.Leaves.{leaves_rise, rotation_sum}
+use Rattle.linear_transformation.proofs.LeafBits.{leaf_rotations}
 use Rattle.linear_transformation.specs.Laws.Plans.{giants_rise, giants_below, giants_multiple}
 use Rattle.runs.specs.Switches.{node_place, tree_schedule}
 use Rattle.runs.specs.Machines.{State, vector_at, switched_all, top_node}
