@@ -16,5 +16,8 @@ make_babies-requires c = record { caching = babies_asked c.requires; n_in_bounds
 pub returns-then-n-own : goal.returns-then-n-own
 returns-then-n-own c = stopped c.requires _ c.least-first.ensures c.make_babies.ensures c.if-n-own.true
 
+pub run_giants-requires-clause-babies_bound : goal.run_giants-requires-clause-babies_bound
+run_giants-requires-clause-babies_bound c = omega arith
+
 pub returns : goal.returns
-returns c = gone_on c.requires _ c.least-first.ensures c.make_babies.ensures c.if-n-own.false c.run_giants.ensures
+returns c = gone_on c.requires _ c.least-first.ensures c.make_babies.ensures (omega arith) c.run_giants.ensures
