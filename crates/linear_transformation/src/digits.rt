@@ -51,7 +51,7 @@ pub fn baby_multiple(baby: i64, baby_step: usize) -> ring::Answer
     ring::Answer::Is(baby as usize / baby_step)
 }
 
-// j of the rotation typeof.j.step; where the step divides slots, the j of least magnitude, half the period
+// j of the rotation j·step; where the step divides slots, the j of least magnitude, half the period
 // being negative.
 pub(crate) fn digit_of(rot: Rot, step: u32, slots: u32) -> Digit
     requires { Digitable slots step rot.0 }

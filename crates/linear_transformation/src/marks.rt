@@ -12,7 +12,7 @@ use crate::LinearTransformationStrategy;
 use crate::babies::close;
 use crate::plan::{baby_step_of, mark_babies, multiples_end};
 
-// Writes typeof.k.step in front of out for each marked k below n; gives the place behind them.
+// Writes k·step in front of out for each marked k below n; gives the place behind them.
 pub(crate) fn write_marks(seen: &[bool; 65536], n: usize, step: usize, out: &mut [u32]) -> usize
     requires n_bound { n ≤ 65536 }
     requires range { Range step }
@@ -29,7 +29,7 @@ pub(crate) fn write_marks(seen: &[bool; 65536], n: usize, step: usize, out: &mut
     at
 }
 
-// Babies: typeof.k.step for each marked k below n.
+// Babies: k·step for each marked k below n.
 #[derive(Drop)]
 pub(crate) struct Marked {
     pub(crate) n: usize,

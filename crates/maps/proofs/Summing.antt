@@ -8,7 +8,7 @@ use Rattle.ring.specs.Vectors.{tabulate}
 use Rattle.ring.specs.Marks.{Unmarked}
 use Rattle.ring.specs.Residues.{residue_of}
 use Rattle.ring.specs.Laws.Residues.{residue_lt}
-use Rattle.ring.specs.Laws.Vectors.{length_tabulate, get_d_tabulate, tabulate_cong, tabulate_more, map_tabulate}
+use Rattle.ring.specs.Laws.Vectors.{length_tabulate, get_or_tabulate, tabulate_cong, tabulate_more, map_tabulate}
 use Rattle.ring.specs.Lists.{join}
 use Rattle.ring.specs.Laws.Lists.{join_map}
 use Rattle.diagonals.specs.SlotMaps.{Term, offset_of, reached}
@@ -153,7 +153,7 @@ module _ {p : Product} {slots d period t base row col : ℕ} {b places old value
     here = record { i = t; j = j; w = get_or b at 0 }
 
     in_row : get_or (plain_row p d b t) l none ≡ here
-    in_row = get_d_tabulate d (plain_term p d b t) l none k ∙ plain_is a m b
+    in_row = get_or_tabulate d (plain_term p d b t) l none k ∙ plain_is a m b
 
     is_reached : reached slots (plain_rows p d b period) o ≡ true
     is_reached =

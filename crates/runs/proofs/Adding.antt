@@ -3,7 +3,7 @@
 use Rattle.std.proofs.Common.{◌≡◌, ℕ, ◌+◌, ◌-◌, ◌<◌, ◌≤◌, List, length, get_or, take, drop, sym, refl, ap, ◌∙◌, arith, length-drop, length-take}
 use Rattle.ring.specs.Slots.{modulus, addm}
 use Rattle.ring.specs.Vectors.{tabulate}
-use Rattle.ring.specs.Laws.Vectors.{length_tabulate, get_d_tabulate, tabulate_cong}
+use Rattle.ring.specs.Laws.Vectors.{length_tabulate, get_or_tabulate, tabulate_cong}
 use Rattle.diagonals.specs.Maps.{length_at, offset_at, start_at, diagonal_at, view, WellFormed}
 use Rattle.diagonals.specs.Products.{term, product}
 use Rattle.diagonals.specs.Laws.Maps.{start_more, values_end, stored_some}
@@ -49,7 +49,7 @@ module _ {count start i : ℕ} {pairs values input out table : List ℕ} (w : We
 
     word : (s : ℕ) → s < length input → diagonal_added period k input out s ≡ product modulus (length input) (view (i + 1) pairs values) input s
     word s h =
-        ap (λ (x : ℕ). addm modulus x (term modulus (length input) input s (record { offset = k; values = period }))) (ap (λ (x : List ℕ). get_or x s 0) a.so_far ∙ get_d_tabulate (length input) _ s 0 h)
+        ap (λ (x : ℕ). addm modulus x (term modulus (length input) input s (record { offset = k; values = period }))) (ap (λ (x : List ℕ). get_or x s 0) a.so_far ∙ get_or_tabulate (length input) _ s 0 h)
         ∙ rw (o, period_is) (sym (product_more modulus (length input) pairs values input i s))
 
     pub adding_more : {new table' : List ℕ} → new ≡ tabulate (length out) (diagonal_added period k input out) → length table' ≡ length table → Adding count pairs values input new table' (start + len) (i + 1)

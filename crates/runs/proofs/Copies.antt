@@ -4,7 +4,7 @@ use Rattle.std.proofs.Common.{◌≡◌, ℕ, ◌+◌, ◌-◌, ◌*◌, ◌/◌
 use Prim.Native.Nat.{◌∣◌}
 use native.Mathlib.Nat.{mod-add-div, le_of_dvd, dvd-mul_right, mod-mod_of_dvd}
 use Rattle.ring.specs.Vectors.{tabulate}
-use Rattle.ring.specs.Laws.Vectors.{length_tabulate, get_d_tabulate, tabulate_cong}
+use Rattle.ring.specs.Laws.Vectors.{length_tabulate, get_or_tabulate, tabulate_cong}
 use Rattle.ring.specs.Laws.Rotations.{rotated_copies}
 use Rattle.ring.specs.Laws.Divisors.{divides_yes}
 use Rattle.ring.specs.Laws.Refusals.{not_outside, on_accept_accepted}
@@ -17,7 +17,7 @@ use Rattle.runs.proofs.Parts.{same_word}
 pub cell_copies : (period : List ℕ) (n s : ℕ) → 0 < n → length period ∣ n → cell (tabulate n (cell period)) s ≡ cell period s
 cell_copies period n s p d =
     ap (λ (x : ℕ). get_or (tabulate n (cell period)) (s % x) 0) (length_tabulate n (cell period))
-    ∙ get_d_tabulate n (cell period) (s % n) 0 (mod-lt s p)
+    ∙ get_or_tabulate n (cell period) (s % n) 0 (mod-lt s p)
     ∙ ap (λ (x : ℕ). get_or period x 0) (mod-mod_of_dvd (length period) s d)
 
 -- the words of a room that whole copies of n words fill

@@ -17,7 +17,7 @@ use Rattle.linear_transformation.specs.Laws.Plans.{width_positive, giants_below}
 use Rattle.linear_transformation.specs.Laws.Runs.{pairs_words_length}
 use Rattle.runs.specs.Machines.{node_at, node_words}
 use Rattle.runs.specs.Laws.NodeRuns.{first_more, cut_first, cut_size, run_inside, run_above, run_among, node_run_lem}
-use Rattle.runs.specs.Steps.Keyed.{first_refusal, size_of}
+use Rattle.runs.specs.Steps.Keyed.{first_diagonal, size_of}
 use Rattle.runs.specs.Steps.Nodes.{GiantRun, NodesAsked, NodesMade, node_slot, first_nodes}
 use Rattle.runs.proofs.FromBabies.{babies_of_lem}
 
@@ -55,7 +55,7 @@ module _
     wide = width_positive strategy w
 
     -- the diagonals of the p-th giant
-    giant_run : (p : ℕ) → p < length giants → GiantRun babies (get_or giants p 0) (first_refusal width ks giants p) (size_of width ks giants p) count pairs input
+    giant_run : (p : ℕ) → p < length giants → GiantRun babies (get_or giants p 0) (first_diagonal width ks giants p) (size_of width ks giants p) count pairs input
     giant_run p l =
         record {
           inside = run_inside formed r.low strategy wide p l;

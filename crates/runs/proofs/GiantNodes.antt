@@ -5,7 +5,7 @@ use native.Mathlib.Decide.{ℕ_discrete}
 use Rattle.ring.specs.Lists.{join}
 use Rattle.ring.specs.Vectors.{tabulate, in_front, put_at}
 use Rattle.ring.specs.Laws.Searches.{lt_or_ge}
-use Rattle.ring.specs.Laws.Vectors.{length_tabulate, get_d_tabulate, length_in_front, in_front_new, in_front_old, join_tables}
+use Rattle.ring.specs.Laws.Vectors.{length_tabulate, get_or_tabulate, length_in_front, in_front_new, in_front_old, join_tables}
 use Rattle.diagonals.specs.Maps.{start_at}
 use Rattle.ring.specs.Laws.Places.{length_put_at, put_at_before, put_at_new, put_at_behind}
 use Rattle.runs.specs.Steps.Nodes.{GiantAsked, PartAsked, PartMade, NodesAsked, node_slot, MadeTo, TileAsked, TileMade, NodesMade}
@@ -56,7 +56,7 @@ module _ {f : ℕ → ℕ → ℕ} {n slots : ℕ} {old : List ℕ} where
         ap (λ (x : ℕ). get_or (put_at at ys new) x 0) e
         ∙ put_at_new at ys new fit (s - slot) 0 (omega (arith, size_is))
         ∙ ap (λ (x : List ℕ). get_or x (s - slot) 0) is
-        ∙ get_d_tabulate size (λ j. f p (slot + j)) (s - slot) 0 j
+        ∙ get_or_tabulate size (λ j. f p (slot + j)) (s - slot) 0 j
         ∙ ap (f p) (let z : slot + (s - slot) ≡ s = omega arith in z)
 
     pub made_more : {upto' : ℕ → ℕ} → upto' p ≡ slot + size → ((q : ℕ) → q ≢ p → upto' q ≡ upto q) → MadeTo f n slots upto' old (put_at at ys new)
@@ -116,8 +116,8 @@ module _ {f : ℕ → ℕ → ℕ} {n slots : ℕ} {old : List ℕ} where
                 let s : i % slots < slots = mod-lt i p in
                 ap (λ (x : ℕ). get_or new x 0) (sym (div-add-mod' i slots))
                 ∙ m.done (i / slots) (i % slots) q s (all (i / slots) (i % slots) s)
-                ∙ ap (λ (x : ℕ). f x (i % slots)) (sym (get_d_tabulate n (λ q. q) (i / slots) 0 q))
-                ∙ sym (in_front_new words old i 0 (omega (arith, size)) ∙ ap (λ (x : List ℕ). get_or x i 0) table ∙ get_d_tabulate (n * slots) _ i 0 b))
+                ∙ ap (λ (x : ℕ). f x (i % slots)) (sym (get_or_tabulate n (λ q. q) (i / slots) 0 q))
+                ∙ sym (in_front_new words old i 0 (omega (arith, size)) ∙ ap (λ (x : List ℕ). get_or x i 0) table ∙ get_or_tabulate (n * slots) _ i 0 b))
                 (λ (b : n * slots ≤ i). m.behind i b ∙ sym (in_front_old words old i 0 (omega (arith, size))))
                 (lt_or_ge i (n * slots))
 

@@ -7,7 +7,7 @@ use Rattle.ring.specs.Lists.{sum_by, among}
 use Rattle.ring.specs.Vectors.{tabulate}
 use Rattle.ring.specs.Laws.Slots.{mulm_comm}
 use Rattle.ring.specs.Laws.Lists.{sum_by_snoc}
-use Rattle.ring.specs.Laws.Vectors.{length_tabulate, get_d_tabulate, tabulate_cong, tabulate_more}
+use Rattle.ring.specs.Laws.Vectors.{length_tabulate, get_or_tabulate, tabulate_cong, tabulate_more}
 use Rattle.diagonals.specs.Maps.{length_at, offset_at, start_at, diagonal_at}
 use Rattle.diagonals.specs.Products.{cell}
 use Rattle.diagonals.specs.Laws.Maps.{start_more, values_end, stored_some}
@@ -99,7 +99,7 @@ module _ {bs : List ℕ} {g first n start slot size at i : ℕ} {pairs values in
         word j h =
             let s = slot + j in
             let term = node_term modulus (length input) bs pairs values input cache g s in
-            let here : get_or part j 0 ≡ sum_by modulus term (tabulate i (λ k. first + k)) = ap (λ (x : List ℕ). get_or x j 0) r.sum ∙ get_d_tabulate size (λ k. node_run modulus (length input) bs pairs values input cache g first i (slot + k)) j 0 h in
+            let here : get_or part j 0 ≡ sum_by modulus term (tabulate i (λ k. first + k)) = ap (λ (x : List ℕ). get_or x j 0) r.sum ∙ get_or_tabulate size (λ k. node_run modulus (length input) bs pairs values input cache g first i (slot + k)) j 0 h in
             let read : get_or words j 0 ≡ get_or vector s 0 = get_or-take (slot + size - slot) (drop slot vector) j 0 (omega arith) ∙ get_or-drop slot vector j 0 in
             let last : mulm modulus (cell period (back % len + j)) (get_or words j 0) ≡ term (first + i) = rw (turned j, read, v, q) (mulm_comm modulus _ _) in
             ap (λ (x : ℕ). addm modulus x (mulm modulus (cell period (back % len + j)) (get_or words j 0))) here

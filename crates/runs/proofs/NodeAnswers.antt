@@ -8,7 +8,7 @@ use Rattle.ring.specs.Vectors.{tabulate, Filling}
 use Rattle.ring.specs.Rotations.{rotated}
 use Rattle.ring.specs.Laws.Lists.{sum_by_snoc}
 use Rattle.ring.specs.Laws.Rotations.{rotated_none}
-use Rattle.ring.specs.Laws.Vectors.{length_tabulate, get_d_tabulate, tabulate_cong, tabulate_more, filling_rest}
+use Rattle.ring.specs.Laws.Vectors.{length_tabulate, get_or_tabulate, tabulate_cong, tabulate_more, filling_rest}
 use Rattle.ring.specs.Laws.Divisors.{divides_yes}
 use Rattle.ring.specs.Laws.Refusals.{not_outside, on_accept_accepted}
 use Rattle.diagonals.specs.Calls.{Rotated}
@@ -23,7 +23,7 @@ added_slot v {s = s} f = rw (filling_rest f s 0 (omega arith))
 
 table_of : (slots : ℕ) (nodes : List ℕ) (k : ℕ) → node_sum modulus slots k nodes ≡ tabulate slots (λ s. get_or (node_sum modulus slots k nodes) s 0)
 unfolding node_sum
-table_of slots nodes k = tabulate_cong slots _ _ (λ s l. sym (get_d_tabulate slots _ s 0 l))
+table_of slots nodes k = tabulate_cong slots _ _ (λ s l. sym (get_or_tabulate slots _ s 0 l))
 
 -- the first p nodes are added
 pub record Summed (n : ℕ) (nodes : List ℕ) (slots : ℕ) (out : List ℕ) (p : ℕ) : Type 0 where
@@ -50,13 +50,13 @@ module _ {n slots p : ℕ} {nodes out : List ℕ} (u : Summed n nodes slots out 
   unfolding node_sum
   slot s k =
       let f : ℕ → ℕ = λ place. get_or (vector_at slots nodes place) s 0 in
-      let here : get_or out s 0 ≡ sum_by modulus f (tabulate p (λ place. place)) = ap (λ (x : List ℕ). get_or x s 0) u.sum ∙ get_d_tabulate slots _ s 0 k in
+      let here : get_or out s 0 ≡ sum_by modulus f (tabulate p (λ place. place)) = ap (λ (x : List ℕ). get_or x s 0) u.sum ∙ get_or_tabulate slots _ s 0 k in
       let last : get_or part s 0 ≡ f p = ap (λ (x : List ℕ). get_or x s 0) part_is in
       ap (λ (x : ℕ). addm modulus x (get_or part s 0)) here
       ∙ ap (addm modulus (sum_by modulus f (tabulate p (λ place. place)))) last
       ∙ sym (sum_by_snoc modulus f (tabulate p (λ place. place)) p)
       ∙ ap (sum_by modulus f) (sym (tabulate_more p (λ place. place)))
-      ∙ sym (get_d_tabulate slots _ s 0 k)
+      ∙ sym (get_or_tabulate slots _ s 0 k)
 
   pub summed_more : {new : List ℕ} → new ≡ tabulate (length out) (vector_added part out) → Summed n nodes slots new (p + 1)
   summed_more {new} e = record { sum = whole; len = ap length e ∙ length_tabulate (length out) _ ∙ u.len; room = omega arith }

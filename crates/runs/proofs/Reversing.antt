@@ -7,7 +7,7 @@ use lib.ListN.{get_or-append}
 use Rattle.ring.specs.Vectors.{tabulate}
 use Rattle.ring.specs.Residues.{residue_of}
 use Rattle.ring.specs.Rotations.{rotated}
-use Rattle.ring.specs.Laws.Vectors.{length_tabulate, get_d_tabulate, is_tabulate, tabulate_cong}
+use Rattle.ring.specs.Laws.Vectors.{length_tabulate, get_or_tabulate, is_tabulate, tabulate_cong}
 use Rattle.ring.specs.Laws.Residues.{residue_pos}
 use Rattle.runs.specs.Steps.Keyed.{reversed}
 
@@ -30,7 +30,7 @@ swapping_none v =
 
 module _ {v new : List ℕ} {i : ℕ} (s : Swapping v new i) where
   at : (x : ℕ) → x < length v → get_or new x 0 ≡ after v i x
-  at x l = rw s.so_far (get_d_tabulate (length v) (after v i) x 0 l)
+  at x l = rw s.so_far (get_or_tabulate (length v) (after v i) x 0 l)
 
   -- what is not reached is as it was
   kept : (x : ℕ) → i ≤ x → x ≤ length v - 1 - i → x < length v → get_or new x 0 ≡ get_or v x 0
@@ -105,7 +105,7 @@ module _ (v : List ℕ) (k : ℕ) (l : k < length v) where
           ap (λ (x : ℕ). get_or (ys ++ zs) x 0) (sym c)
           ∙ get_or-append-add ys zs (length v - 1 - i - k) 0
           ∙ ap (λ (x : List ℕ). get_or x (length v - 1 - i - k) 0) q
-          ∙ get_d_tabulate (length (drop k v)) (reversed (drop k v)) (length v - 1 - i - k) 0 (omega arith)
+          ∙ get_or_tabulate (length (drop k v)) (reversed (drop k v)) (length v - 1 - i - k) 0 (omega arith)
           ∙ ap (λ (x : ℕ). get_or (drop k v) x 0) e
           ∙ get_or-drop k v i 0
           ∙ ap (λ (x : ℕ). get_or v x 0) (let f : k + i ≡ i + k = omega arith in f ∙ sym (mod-eq_of_lt m))
@@ -115,7 +115,7 @@ module _ (v : List ℕ) (k : ℕ) (l : k < length v) where
           let f : i + k ≡ i + k - length v + length v = omega arith in
           get_or-append ys zs 0 (length v - 1 - i) (omega arith)
           ∙ ap (λ (x : List ℕ). get_or x (length v - 1 - i) 0) p
-          ∙ get_d_tabulate (length (take k v)) (reversed (take k v)) (length v - 1 - i) 0 (omega arith)
+          ∙ get_or_tabulate (length (take k v)) (reversed (take k v)) (length v - 1 - i) 0 (omega arith)
           ∙ ap (λ (x : ℕ). get_or (take k v) x 0) e
           ∙ get_or-take k v (i + k - length v) 0 (omega arith)
           ∙ ap (λ (x : ℕ). get_or v x 0) (sym (ap (λ (x : ℕ). x % length v) f ∙ add-mod_right (i + k - length v) (length v) ∙ mod-eq_of_lt (omega arith)))

@@ -4,7 +4,7 @@ use Rattle.std.proofs.Common.{◌≡◌, ℕ, suc, ◌+◌, ◌-◌, ◌*◌, �
 use native.Mathlib.Nat.{add-mod_right}
 use Rattle.ring.specs.Slots.{modulus, addm}
 use Rattle.ring.specs.Vectors.{tabulate, in_front, put_at}
-use Rattle.ring.specs.Laws.Vectors.{length_tabulate, get_d_tabulate, tabulate_add, tabulate_cong}
+use Rattle.ring.specs.Laws.Vectors.{length_tabulate, get_or_tabulate, tabulate_add, tabulate_cong}
 use Rattle.ring.specs.Rotations.{rotated}
 use Rattle.ring.specs.Laws.Rotations.{get_or_rotated, length_rotated}
 use Rattle.ring.specs.Laws.Residues.{residue_pos}
@@ -40,7 +40,7 @@ module _ (slots : ℕ) (buffer : List ℕ) (place k : ℕ) (h : Inside slots buf
 
   pub turned_table : turned slots (vector_at slots buffer place) k ≡ tabulate slots (λ j. get_or buffer (place * slots + (j + k) % slots) 0)
   unfolding rotated
-  turned_table = tabulate_cong slots _ _ (λ j l. sym (get_d_tabulate slots _ j 0 l) ∙ turned_word j l)
+  turned_table = tabulate_cong slots _ _ (λ j l. sym (get_or_tabulate slots _ j 0 l) ∙ turned_word j l)
 
 -- ---- copied
 

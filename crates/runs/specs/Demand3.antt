@@ -158,7 +158,7 @@ module _ {slots count count' : ℕ} {pairs pairs' values values' input input' : 
     (k : KeyedRun slots count pairs values input strategy held n old new r) (k' : KeyedRun slots count' pairs' values' input' strategy held' n old' new' r') where
   pub record SameSchedule : Type 0 where
     pub answers : r ≡ r'
-    pub plan_words_lem : map_plan slots strategy (map_of k) ≡ map_plan slots strategy (map_of k')
+    pub plan_words_fact : map_plan slots strategy (map_of k) ≡ map_plan slots strategy (map_of k')
     pub pair_records : plan_records slots strategy (offsets_of (map_of k)) ≡ plan_records slots strategy (offsets_of (map_of k'))
     pub log_words : rotations k ≡ rotations k'
     pub plan : old.plan ≡ old'.plan → new.plan ≡ new'.plan
@@ -169,7 +169,7 @@ module _ {slots count count' : ℕ} {pairs pairs' values values' input input' : 
   schedule_reads_no_slot a b e =
       record {
         answers = run_answer k a ∙ answered_alike slots strategy n (map_of k) (map_of k') e ∙ sym (run_answer k' b);
-        plan_words_lem = rw e;
+        plan_words_fact = rw e;
         pair_records = rw e;
         log_words = rw e;
         plan = λ q. (every_word k a).plan ∙ rw (e, q) (sym (every_word k' b).plan);

@@ -10,7 +10,7 @@ use Rattle.ring.specs.Residues.{residue_of}
 use Rattle.ring.specs.Refusals.{first_refusal, no_period}
 use Rattle.ring.specs.declared.Answer.{Answer}
 use Rattle.ring.specs.declared.Answer.TheVariants.{Refused, Is}
-use Rattle.ring.specs.Laws.Vectors.{get_d_tabulate}
+use Rattle.ring.specs.Laws.Vectors.{get_or_tabulate}
 use Rattle.diagonals.specs.declared.setting.Change.{Change}
 use Rattle.diagonals.specs.Maps.{Diagonal, pair_room, offset_at, pair_of, pair_words, value_words, start_at, diagonal_at, view, WellFormed}
 use Rattle.diagonals.specs.Laws.Pairs.{room_add, room_mono}
@@ -61,7 +61,7 @@ module _ {slots count : ℕ} {pairs values : List ℕ} (w : WellFormed slots cou
   view_at l =
       let d : Diagonal = diagonal_at pairs values index in
       drop-cons old index d (omega (arith, length_view count pairs values))
-      ∙ ap (λ (x : Diagonal). x ∷ drop (suc index) old) (get_d_tabulate count (diagonal_at pairs values) index d l)
+      ∙ ap (λ (x : Diagonal). x ∷ drop (suc index) old) (get_or_tabulate count (diagonal_at pairs values) index d l)
 
   -- the place above k is one further where a diagonal is at k, else the same
   behind_next : index < count → offset_at pairs index ≡ k → behind ≡ suc index

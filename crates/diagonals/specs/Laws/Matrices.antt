@@ -10,7 +10,7 @@ use Rattle.ring.specs.Lists.{sum_by, Each, Rising}
 use Rattle.ring.specs.Vectors.{tabulate}
 use Rattle.ring.specs.Laws.Slots.{addm_comm, zero_addm, zero_mulm, mulm_mod}
 use Rattle.ring.specs.Laws.Lists.{each_then, each_tabulate, each_reverse, map_each, sum_by_each, sum_by_cong, sum_by_sum, sum_by_zero}
-use Rattle.ring.specs.Laws.Vectors.{length_tabulate, get_d_tabulate}
+use Rattle.ring.specs.Laws.Vectors.{length_tabulate, get_or_tabulate}
 use Rattle.ring.specs.Laws.Searches.{eqb_same}
 use Rattle.ring.specs.Laws.Below.{sum_one}
 use Rattle.diagonals.specs.Maps.{Diagonal, offsets_of, Formed, FormedMap}
@@ -19,7 +19,7 @@ use Rattle.diagonals.specs.Products.{cell, stretch, matrix, term, product, dot}
 -- ---- which values an offset finds
 
 pub cell_tabulate : (p : ℕ) (f : ℕ → ℕ) (i : ℕ) → 0 < p → cell (tabulate p f) i ≡ f (i % p)
-cell_tabulate p f i h = rw length_tabulate (get_d_tabulate p f (i % p) 0 (mod-lt i h))
+cell_tabulate p f i h = rw length_tabulate (get_or_tabulate p f (i % p) 0 (mod-lt i h))
 
 module _ (k : ℕ) where
   pub stretch_absent : (ds : List Diagonal) → Each (λ d. d.offset ≢ k) ds → stretch ds k ≡ []

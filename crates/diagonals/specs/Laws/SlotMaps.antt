@@ -17,7 +17,7 @@ use Rattle.ring.specs.Residues.{residue_of, named, diagonals_of}
 use Rattle.ring.specs.Searches.{below}
 use Rattle.ring.specs.Laws.Slots.{mulm_comm, mulm_mod, zero_mulm}
 use Rattle.ring.specs.Laws.Lists.{each_all, each_then, each_map, each_both, sum_by_cong, sum_by_each, sum_by_map, sum_by_scale, sum_by_exchange, join_map, join_cong}
-use Rattle.ring.specs.Laws.Vectors.{length_tabulate, get_d_tabulate, join_tables}
+use Rattle.ring.specs.Laws.Vectors.{length_tabulate, get_or_tabulate, join_tables}
 use Rattle.ring.specs.Laws.Residues.{residue_add, residue_pos, residue_lt}
 use Rattle.ring.specs.Laws.Below.{below_ext, below_low, below_rising, sum_below_one}
 use Rattle.diagonals.specs.Maps.{Diagonal, offsets_of, pair_of, pair_words, value_words, FormedMap}
@@ -38,7 +38,7 @@ module _ (is js ws : List ℕ) where
 
   pub term_at_lem : (t : ℕ) (d : Term) → t < length is → slice_index_or (terms_of is js ws) t d ≡ term_at is js ws t
   unfolding terms_of
-  term_at_lem t d l = get_d_tabulate (length is) (term_at is js ws) t d l
+  term_at_lem t d l = get_or_tabulate (length is) (term_at is js ws) t d l
 
 -- ---- which diagonals are reached
 
@@ -167,7 +167,7 @@ module _ (m slots period : ℕ) (ts : List Term) (input : List ℕ) (i q : ℕ) 
   cell_is k =
       ap (λ (n : ℕ). slice_index (gathered m slots period ts k).values ((i + q * period) % n)) (length_tabulate period (λ x. sum_by m (weight slots k x) ts))
       ∙ ap (λ (n : ℕ). slice_index (gathered m slots period ts k).values n) (add-mul-mod_self_right i q period ∙ mod-eq_of_lt l)
-      ∙ get_d_tabulate period (λ x. sum_by m (weight slots k x) ts) i 0 l
+      ∙ get_or_tabulate period (λ x. sum_by m (weight slots k x) ts) i 0 l
 
   -- a term counts at its own diagonal alone
   at_own : (t : Term) (k : ℕ) (a b : Bool) → (offset_of slots t == k) ≡ a → (t.i == i) ≡ b → mulm m (reads k) (cond (a && b) t.w 0) ≡ cond a (cond b (mulm m t.w (reads (offset_of slots t))) 0) 0

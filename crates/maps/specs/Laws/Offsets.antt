@@ -13,7 +13,7 @@ use Rattle.ring.specs.Lists.{join, Each}
 use Rattle.ring.specs.Vectors.{tabulate}
 use Rattle.ring.specs.Residues.{residue_of, named, diagonals_of}
 use Rattle.ring.specs.Laws.Lists.{each_then, each_map, each_append, each_tabulate, rising_tabulate}
-use Rattle.ring.specs.Laws.Vectors.{length_tabulate, get_d_tabulate, tabulate_cong, map_tabulate}
+use Rattle.ring.specs.Laws.Vectors.{length_tabulate, get_or_tabulate, tabulate_cong, map_tabulate}
 use Rattle.ring.specs.Laws.Searches.{lt_or_ge}
 use Rattle.ring.specs.Laws.Residues.{residue_pos, equal_gaps, gap_pos}
 use Rattle.ring.specs.Laws.Indexes.{mem_tabulate, mem_named, same_diagonals, rising_diagonals, one_diagonal}
@@ -328,7 +328,7 @@ module _ (m slots d count : ℕ) (h : 1 ≤ d) (n : 1 ≤ count) where
         let e : difference (sum_term p d count b t w.l) ≡ z =
         sum_gap t w.l ∙ ap (λ (y : Entry). pos (place d (factors p d y.row y.col w.l).input) -ℤ pos (place d y)) (entry_of_place d w.output w.inside) ∙ w.is in
         reached_row (output_terms p d count b) slots (residue_of z slots) (period_of p d count) t w.low
-        (rw (get_d_tabulate d (sum_term p d count b t) w.l (sum_term p d count b t 0) w.l_low, e) at
+        (rw (get_or_tabulate d (sum_term p d count b t) w.l (sum_term p d count b t 0) w.l_low, e) at
         (reached_at slots (output_terms p d count b t) w.l (sum_term p d count b t 0) (rw length_tabulate w.l_low)))
 
     -- the offsets of a product, whatever the public matrices are

@@ -9,7 +9,7 @@ use Rattle.ring.specs.Refusals.{first_refusal}
 use Rattle.ring.specs.declared.Answer.{Answer}
 use Rattle.ring.specs.declared.Answer.TheVariants.{Refused, Is}
 use Rattle.ring.specs.Laws.Lists.{join_map, join_cong, each_tabulate}
-use Rattle.ring.specs.Laws.Vectors.{length_tabulate, get_d_tabulate, map_tabulate, tabulate_cong, tabulate_more, join_tables, filled_front}
+use Rattle.ring.specs.Laws.Vectors.{length_tabulate, get_or_tabulate, map_tabulate, tabulate_cong, tabulate_more, join_tables, filled_front}
 use Rattle.diagonals.specs.Maps.{Diagonal, offset_at, pair_room, put_pair, pair_of, pair_words, value_words}
 use Rattle.diagonals.specs.SlotMaps.{zeros_at, zero_map}
 use Rattle.diagonals.specs.Calls.{map_room, RoomJudged, MapWritten}
@@ -54,7 +54,7 @@ module _ (n p : ℕ) (o : ℕ → ℕ) (v : ℕ → ℕ → ℕ) where
       ∙ join_map row (λ d. d.values) (tabulate n (λ i. i))
       ∙ join_tables p h v 0 (tabulate n (λ i. i))
       ∙ ap (λ (m : ℕ). tabulate (m * p) (λ x. v (slice_index (tabulate n (λ i. i)) (x / p)) (x % p))) (length_tabulate n (λ i. i))
-      ∙ tabulate_cong (n * p) (λ x. v (slice_index (tabulate n (λ i. i)) (x / p)) (x % p)) (row_value p v) (λ x l. ap (λ (i : ℕ). v i (x % p)) (get_d_tabulate n (λ i. i) (x / p) 0 ((div-lt_iff_lt-mul h).1 l)))
+      ∙ tabulate_cong (n * p) (λ x. v (slice_index (tabulate n (λ i. i)) (x / p)) (x % p)) (row_value p v) (λ x l. ap (λ (i : ℕ). v i (x % p)) (get_or_tabulate n (λ i. i) (x / p) 0 ((div-lt_iff_lt-mul h).1 l)))
 
   pub length_values_rows : length (value_words (rows n p o v)) ≡ n * p
   length_values_rows =

@@ -10,7 +10,7 @@ use native.Mathlib.Omega.{arith}
 use Rattle.ring.specs.Slots.{addm, mulm}
 use Rattle.ring.specs.Lists.{sum_by}
 use Rattle.ring.specs.Laws.Slots.{mulm_right}
-use Rattle.ring.specs.Laws.Vectors.{get_d_tabulate}
+use Rattle.ring.specs.Laws.Vectors.{get_or_tabulate}
 use Rattle.diagonals.specs.Products.{product}
 use Rattle.maps.specs.declared.rules.Rule.{Rule}
 use Rattle.maps.specs.declared.rules.Rule.TheVariants.{Sigma, Tau}
@@ -32,7 +32,7 @@ module _ (m slots d : ℕ) (v : d * d ∣ slots) (a : List ℕ) (s : ℕ) (k : s
   -- its entries
   pub after_is : (rule : Rule) → made_shift rule d ≤ d → (e : Entry) → InMatrix d e → entry_at d (after m slots d rule a) s e ≡ sum_by m (entry_at d a s) (reads rule d e.row e.col)
   after_is rule l e h =
-      get_d_tabulate slots (product m slots (rule_map m slots d rule) a) (s * (d * d) + place d e) 0 (slot_low d e h s slots v k)
+      get_or_tabulate slots (product m slots (rule_map m slots d rule) a) (s * (d * d) + place d e) 0 (slot_low d e h s slots v k)
       ∙ rule_map_product m slots d rule l v a s e h k
 
   module _ (r c : ℕ) (h : r < d) (n : c < d) where

@@ -11,7 +11,7 @@ use Rattle.ring.specs.Vectors.{tabulate}
 use Rattle.ring.specs.Residues.{residue_of}
 use Rattle.ring.specs.Rotations.{rotated}
 use Rattle.ring.specs.Laws.Slots.{zero_mulm, one_mulm, mulm_mod}
-use Rattle.ring.specs.Laws.Vectors.{length_tabulate, get_d_tabulate}
+use Rattle.ring.specs.Laws.Vectors.{length_tabulate, get_or_tabulate}
 use Rattle.ring.specs.Laws.Residues.{residue_add}
 use Rattle.diagonals.specs.Products.{cell, term, product}
 use Rattle.diagonals.specs.Maps.{FormedMap}
@@ -26,7 +26,7 @@ use Rattle.maps.specs.Laws.Stages.{one_sum}
 pub skewed_at_lem : (rows : Bool) (d count : ℕ) (b : List ℕ) (s : ℕ) (e : Entry) → s < count → InMatrix d e → entry_at d (skewed_values rows d count b) s e ≡ entry_at d b s (skewed rows d e)
 unfolding skewed_values
 skewed_at_lem rows d count b s e k h =
-    get_d_tabulate (count * (d * d)) (λ t. entry_at d b (slot_of d t) (skewed rows d (entry_of d t))) (s * (d * d) + place d e) 0
+    get_or_tabulate (count * (d * d)) (λ t. entry_at d b (slot_of d t) (skewed rows d (entry_of d t))) (s * (d * d) + place d e) 0
     (omega (arith, place_low d e h, suc-mul s (d * d), mul-le-mul_right {m = suc s} {n = count} (d * d) k))
     ∙ ap (λ (x : ℕ). entry_at d b x (skewed rows d (entry_of d (s * (d * d) + place d e)))) (slot_of_slot d e h s)
     ∙ ap (λ (x : Entry). entry_at d b s (skewed rows d x)) (entry_of_slot d e h s)

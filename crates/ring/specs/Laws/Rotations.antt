@@ -9,7 +9,7 @@ use Rattle.std.proofs.Math.IntN.{+ℤ_assoc, +ℤ_comm}
 use Rattle.ring.specs.Vectors.{tabulate}
 use Rattle.ring.specs.Residues.{residue_of}
 use Rattle.ring.specs.Rotations.{rotated}
-use Rattle.ring.specs.Laws.Vectors.{length_tabulate, get_d_tabulate, is_tabulate, tabulate_cong}
+use Rattle.ring.specs.Laws.Vectors.{length_tabulate, get_or_tabulate, is_tabulate, tabulate_cong}
 use Rattle.ring.specs.Laws.Residues.{residue_lt, residue_pos, residue_residue, residue_add, residue_shift}
 
 pub length_rotated : (v : List ℕ) (k : ℤ) (n : ℕ) → length (rotated v k n) ≡ n
@@ -18,7 +18,7 @@ length_rotated v k n = length_tabulate n _
 
 pub get_or_rotated : (v : List ℕ) (k : ℤ) (n j : ℕ) → j < n → slice_index (rotated v k n) j ≡ slice_index v (residue_of (pos j +ℤ k) (length v))
 unfolding rotated
-get_or_rotated v k n j l = get_d_tabulate n _ j 0 l
+get_or_rotated v k n j l = get_or_tabulate n _ j 0 l
 
 -- a vector turned by no slot
 pub rotated_none : (v : List ℕ) → rotated v (pos 0) (length v) ≡ v

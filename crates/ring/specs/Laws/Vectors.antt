@@ -20,16 +20,16 @@ module _ {A : Type 0} where
   length_tabulate zero f = refl
   length_tabulate (suc n) f = ap suc (length_tabulate n (λ k. f (suc k)))
 
-  pub get_d_tabulate : (n : ℕ) (f : ℕ → A) (i : ℕ) (d : A) → i < n → slice_index_or (tabulate n f) i d ≡ f i
-  get_d_tabulate zero f i d l = absurd (not-suc-le-zero l)
-  get_d_tabulate (suc n) f zero d l = refl
-  get_d_tabulate (suc n) f (suc i) d l = get_d_tabulate n (λ k. f (suc k)) i d (le_of_suc-le-suc l)
+  pub get_or_tabulate : (n : ℕ) (f : ℕ → A) (i : ℕ) (d : A) → i < n → slice_index_or (tabulate n f) i d ≡ f i
+  get_or_tabulate zero f i d l = absurd (not-suc-le-zero l)
+  get_or_tabulate (suc n) f zero d l = refl
+  get_or_tabulate (suc n) f (suc i) d l = get_or_tabulate n (λ k. f (suc k)) i d (le_of_suc-le-suc l)
 
   -- a list with these elements is the table of them
   pub is_tabulate : (n : ℕ) (f : ℕ → A) (d : A) (xs : List A) → length xs ≡ n → ((i : ℕ) → i < n → slice_index_or xs i d ≡ f i) → xs ≡ tabulate n f
   is_tabulate n f d xs len at =
       ext_get_or d xs (tabulate n f) (len ∙ sym (length_tabulate n f))
-      (λ i l. let h : i < n = omega arith in at i h ∙ sym (get_d_tabulate n f i d h))
+      (λ i l. let h : i < n = omega arith in at i h ∙ sym (get_or_tabulate n f i d h))
 
   -- every list is the table of its elements
   pub tabulate_get_or : (xs : List A) (d : A) → xs ≡ tabulate (length xs) (λ i. get_or xs i d)
@@ -129,7 +129,7 @@ module _ {A : Type 0} (f : ℕ → A) where
 module _ {A : Type 0} (f : ℕ → A) (n : ℕ) (d : List A) (z : A) where
   -- what is stored
   pub filled_at : (i : ℕ) → i < n → slice_index_or (filled f n d) i z ≡ f i
-  filled_at i l = rw filled_front (in_front_new (tabulate n f) d i z (rw length_tabulate l) ∙ get_d_tabulate n f i z l)
+  filled_at i l = rw filled_front (in_front_new (tabulate n f) d i z (rw length_tabulate l) ∙ get_or_tabulate n f i z l)
 
   -- a buffer that holds the words already
   pub filled_same : n ≤ length d → ((i : ℕ) → i < n → slice_index_or d i z ≡ f i) → d ≡ filled f n d
@@ -153,7 +153,7 @@ module _ {A : Type 0} (f g : ℕ → A) (n : ℕ) (d : List A) where
     where
       by_index : (x : ℕ) → x < n → Dec (x ≡ i) → slice_index_or (slice_set (tabulate n f) i v) x v ≡ g x
       by_index x h (yes q) = rw (q, get_or-set_same (tabulate n f) i v v (rw length_tabulate l)) e
-      by_index x h (no q) = get_or-set_other (tabulate n f) i x v v q ∙ get_d_tabulate n f x v h ∙ same x h q
+      by_index x h (no q) = get_or-set_other (tabulate n f) i x v v q ∙ get_or_tabulate n f x v h ∙ same x h q
 
 -- tables of one size, one after the other: the x-th word is word x % p of the (x / p)-th
 pub join_tables : {A B : Type 0} (p : ℕ) → 0 < p → (g : B → ℕ → A) (d : B) (ks : List B) → join (λ k. tabulate p (g k)) ks ≡ tabulate (length ks * p) (λ x. g (slice_index_or ks (x / p) d) (x % p))

@@ -12,7 +12,7 @@ use Rattle.ring.specs.Lists.{sum_by, join}
 use Rattle.ring.specs.Vectors.{tabulate, in_front}
 use Rattle.ring.specs.Laws.Lists.{each_tabulate, sum_by_each, sum_by_map, sum_by_mod}
 use Rattle.ring.specs.Laws.Searches.{lt_or_ge}
-use Rattle.ring.specs.Laws.Vectors.{length_in_front, in_front_new, get_d_tabulate, is_tabulate, tabulate_get_or, map_tabulate, join_tables}
+use Rattle.ring.specs.Laws.Vectors.{length_in_front, in_front_new, get_or_tabulate, is_tabulate, tabulate_get_or, map_tabulate, join_tables}
 use Rattle.diagonals.specs.Maps.{Diagonal, offsets_of, FormedMap}
 use Rattle.diagonals.specs.Products.{cell, stretch, product}
 use Rattle.linear_transformation.specs.declared.LinearTransformationStrategy.{LinearTransformationStrategy}
@@ -197,7 +197,7 @@ module _
         ap (λ (v : List ℕ). slice_index v x) before_nodes
         ∙ in_front_new words lent.nodes x 0 (omega (arith, length_vectors slots p node gs lent.nodes))
         ∙ ap (λ (v : List ℕ). slice_index v x) (join_tables slots p node 0 gs)
-        ∙ get_d_tabulate (length gs * slots) (λ x. node (slice_index gs (x / slots)) (x % slots)) x 0 l in
+        ∙ get_or_tabulate (length gs * slots) (λ x. node (slice_index gs (x / slots)) (x % slots)) x 0 l in
         rw e (node_reduced m slots strategy ds input cache (slice_index gs (x / slots)) (x % slots))
 
     -- what the giant switches and the answer leave is the product, slot by slot
@@ -206,7 +206,7 @@ module _
         done.slot s l
         ∙ sum_by_each m (λ place. slice_index (vector_at slots before.nodes place) ((s + slice_index gs place) % slots)) (λ place. node (slice_index gs place) ((s + slice_index gs place) % slots)) (tabulate (length gs) (λ place. place))
         (each_tabulate (λ place. slice_index (vector_at slots before.nodes place) ((s + slice_index gs place) % slots) ≡ node (slice_index gs place) ((s + slice_index gs place) % slots)) (length gs) (λ place. place)
-        (λ i h. rw (before_vector i h) (get_d_tabulate slots (node (slice_index gs i)) ((s + slice_index gs i) % slots) 0 (mod-lt (s + slice_index gs i) p))))
+        (λ i h. rw (before_vector i h) (get_or_tabulate slots (node (slice_index gs i)) ((s + slice_index gs i) % slots) 0 (mod-lt (s + slice_index gs i) p))))
         ∙ sum_places m (λ g. node g ((s + g) % slots)) gs
         ∙ nodes_product m slots strategy ds f p low w input cache len (cache_holds m slots input len p low strategy ks lent cached) s l
 

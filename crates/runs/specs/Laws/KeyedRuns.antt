@@ -13,7 +13,7 @@ use Rattle.ring.specs.Refusals.{pick, first_refusal, Range}
 use Rattle.ring.specs.Laws.Refusals.{on_accept_refused, on_accept_accepted, first_later, none_of_both, none_holds, inside}
 use Rattle.ring.specs.Laws.Lists.{each_map}
 use Rattle.ring.specs.Laws.Searches.{lt_or_ge}
-use Rattle.ring.specs.Laws.Vectors.{length_tabulate, get_d_tabulate, in_front_new}
+use Rattle.ring.specs.Laws.Vectors.{length_tabulate, get_or_tabulate, in_front_new}
 use Rattle.diagonals.specs.Maps.{Diagonal, offsets_of, FormedMap, view}
 use Rattle.diagonals.specs.Products.{matrix, product, dot}
 use Rattle.diagonals.specs.Calls.{map_refusals, map_refusal}
@@ -138,7 +138,7 @@ module _ (n : ℕ) (f : ℕ → ℕ) (old : List ℕ) where
   front_taken = front_words (tabulate n f) old n (length_tabulate n f)
 
   front_slot : (s : ℕ) → s < n → slice_index (in_front (tabulate n f) old) s ≡ f s
-  front_slot s l = in_front_new (tabulate n f) old s 0 (rw (length_tabulate n f) l) ∙ get_d_tabulate n f s 0 l
+  front_slot s l = in_front_new (tabulate n f) old s 0 (rw (length_tabulate n f) l) ∙ get_or_tabulate n f s 0 l
 
 -- ---- the rotations of the first n switches
 

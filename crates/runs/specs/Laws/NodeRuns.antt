@@ -12,7 +12,7 @@ use Rattle.ring.specs.Vectors.{tabulate}
 use Rattle.ring.specs.Slots.{mulm}
 use Rattle.ring.specs.Laws.Lists.{join_append, each_at}
 use Rattle.ring.specs.Laws.Members.{among_each}
-use Rattle.ring.specs.Laws.Vectors.{get_d_tabulate, tabulate_get_or}
+use Rattle.ring.specs.Laws.Vectors.{get_or_tabulate, tabulate_get_or}
 use Rattle.diagonals.specs.Maps.{offsets_of, offset_at, diagonal_at, view, WellFormed}
 use Rattle.diagonals.specs.Products.{cell, stretch}
 use Rattle.diagonals.specs.Laws.Maps.{offsets_view, length_view, stretch_found}
@@ -24,7 +24,7 @@ use Rattle.linear_transformation.specs.Laws.Plans.{index_babies, index_length, i
 use Rattle.linear_transformation.specs.Laws.Widths.{distinct_planned}
 use Rattle.runs.specs.Switches.{source_of}
 use Rattle.runs.specs.Machines.{source_vector, node_at}
-use Rattle.runs.specs.Steps.Keyed.{first_refusal, size_of, node_term, node_run}
+use Rattle.runs.specs.Steps.Keyed.{first_diagonal, size_of, node_term, node_run}
 use Rattle.runs.specs.Laws.Elements.{mapped_at}
 use Rattle.runs.specs.Laws.Plans.{map_distinct}
 use Rattle.runs.specs.Laws.Schedules.{plan_babies_have}
@@ -82,15 +82,15 @@ before_same f g same (x ∷ xs) = omega (arith, length-append (f x) (join f xs),
 -- ---- where the diagonals of a giant stand
 
 module _ (width : ℕ) (ks gs : List ℕ) where
-  pub first_suc : (p : ℕ) → p < length gs → first_refusal width ks gs (suc p) ≡ first_refusal width ks gs p + size_of width ks gs p
+  pub first_suc : (p : ℕ) → p < length gs → first_diagonal width ks gs (suc p) ≡ first_diagonal width ks gs p + size_of width ks gs p
   first_suc p l = before_suc (babies_at width ks) gs p l
 
-  pub first_more : (p : ℕ) → p < length gs → first_refusal width ks gs (p + 1) ≡ first_refusal width ks gs p + size_of width ks gs p
+  pub first_more : (p : ℕ) → p < length gs → first_diagonal width ks gs (p + 1) ≡ first_diagonal width ks gs p + size_of width ks gs p
   first_more p l = rw (add-one p) (first_suc p l)
 
 module _ (slots width : ℕ) (ks : List ℕ) where
   -- the pairs of the plan say so
-  pub cut_first : (p : ℕ) → p < length (giants slots width ks) → slice_index (join (λ c. c.0 ∷ c.1 ∷ []) (plan_pairs slots width ks)) (2 * p) ≡ first_refusal width ks (giants slots width ks) p
+  pub cut_first : (p : ℕ) → p < length (giants slots width ks) → slice_index (join (λ c. c.0 ∷ c.1 ∷ []) (plan_pairs slots width ks)) (2 * p) ≡ first_diagonal width ks (giants slots width ks) p
   unfolding plan_pairs
   cut_first p l = cuts_first (babies_at width ks) 0 (giants slots width ks) p l ∙ omega arith
 
@@ -99,7 +99,7 @@ module _ (slots width : ℕ) (ks : List ℕ) where
   cut_size p l = cuts_size (babies_at width ks) 0 (giants slots width ks) p l
 
 module _ {slots width : ℕ} {ks : List ℕ} (w : Planned slots width ks) where
-  pub planned_inside : (p : ℕ) → p < length (giants slots width ks) → first_refusal width ks (giants slots width ks) p + size_of width ks (giants slots width ks) p ≤ length ks
+  pub planned_inside : (p : ℕ) → p < length (giants slots width ks) → first_diagonal width ks (giants slots width ks) p + size_of width ks (giants slots width ks) p ≤ length ks
   unfolding plan_index
   planned_inside p l =
       let gs = giants slots width ks in
@@ -113,29 +113,29 @@ module _ {slots width : ℕ} {ks : List ℕ} (w : Planned slots width ks) where
     base = slice_index listed p
 
     -- the i-th diagonal of the p-th giant is the giant plus its i-th baby
-    pub planned_diagonal : slice_index_or ks (first_refusal width ks listed p + i) 0 ≡ base + slice_index (babies_at width ks base) i
+    pub planned_diagonal : slice_index_or ks (first_diagonal width ks listed p + i) 0 ≡ base + slice_index (babies_at width ks base) i
     planned_diagonal =
         let f : ℕ → List ℕ = λ g. map (λ b. g + b) (babies_at width ks g) in
-        let e : length (join f (take p listed)) ≡ first_refusal width ks listed p = before_same f (babies_at width ks) (λ x. length-map (babies_at width ks x) (λ b. x + b)) (take p listed) in
-        ap (λ (t : List ℕ). slice_index t (first_refusal width ks listed p + i)) (sym (index_diagonals w))
+        let e : length (join f (take p listed)) ≡ first_diagonal width ks listed p = before_same f (babies_at width ks) (λ x. length-map (babies_at width ks x) (λ b. x + b)) (take p listed) in
+        ap (λ (t : List ℕ). slice_index t (first_diagonal width ks listed p + i)) (sym (index_diagonals w))
         ∙ ap (λ (n : ℕ). slice_index (join f listed) (n + i)) (sym e)
         ∙ joined_at f listed p i l (rw (length-map (babies_at width ks base) (λ b. base + b)) h)
         ∙ mapped_at (λ b. base + b) (babies_at width ks base) i 0 0 h
 
     -- and that is the diagonal's baby
-    planned_baby : slice_index_or (babies_at width ks base) i 0 ≡ baby_of width (slice_index ks (first_refusal width ks listed p + i))
+    planned_baby : slice_index_or (babies_at width ks base) i 0 ≡ baby_of width (slice_index ks (first_diagonal width ks listed p + i))
     unfolding plan_index
     planned_baby =
         sym (joined_at (babies_at width ks) listed p i l h)
-        ∙ ap (λ (t : List ℕ). slice_index t (first_refusal width ks listed p + i)) (index_babies w)
-        ∙ mapped_at (baby_of width) ks (first_refusal width ks listed p + i) 0 0 (omega (arith, planned_inside p l))
+        ∙ ap (λ (t : List ℕ). slice_index t (first_diagonal width ks listed p + i)) (index_babies w)
+        ∙ mapped_at (baby_of width) ks (first_diagonal width ks listed p + i) 0 0 (omega (arith, planned_inside p l))
 
     planned_among : among (slice_index (babies_at width ks base) i) (babies slots width ks) ≡ true
     planned_among =
-        let j : first_refusal width ks listed p + i < length ks = omega (arith, planned_inside p l) in
+        let j : first_diagonal width ks listed p + i < length ks = omega (arith, planned_inside p l) in
         rw planned_baby
-        (babies_have w (slice_index ks (first_refusal width ks listed p + i))
-        (each_at (λ k. among k ks ≡ true) ks 0 (among_each (λ k. among k ks ≡ true) ks (λ k a. a)) (first_refusal width ks listed p + i) j))
+        (babies_have w (slice_index ks (first_diagonal width ks listed p + i))
+        (each_at (λ k. among k ks ≡ true) ks 0 (among_each (λ k. among k ks ≡ true) ks (λ k a. a)) (first_diagonal width ks listed p + i) j))
 
 -- ---- the runs of a map
 
@@ -155,37 +155,37 @@ module _ {slots count : ℕ} {pairs values : List ℕ} (w : WellFormed slots cou
   ks_length : length ks ≡ count
   ks_length = length-map (view count pairs values) (λ d. d.offset) ∙ length_view count pairs values
 
-  pub run_inside : (p : ℕ) → p < length gs → first_refusal width ks gs p + size_of width ks gs p ≤ count
+  pub run_inside : (p : ℕ) → p < length gs → first_diagonal width ks gs p + size_of width ks gs p ≤ count
   run_inside p l = omega (arith, planned_inside map_planned p l, ks_length)
 
   module _ (p i : ℕ) (l : p < length gs) (h : i < size_of width ks gs p) where
     -- the i-th offset of the p-th giant
-    pub run_offset : offset_at pairs (first_refusal width ks gs p + i) ≡ slice_index gs p + slice_index (babies_at width ks (slice_index gs p)) i
+    pub run_offset : offset_at pairs (first_diagonal width ks gs p + i) ≡ slice_index gs p + slice_index (babies_at width ks (slice_index gs p)) i
     run_offset =
-        let j : first_refusal width ks gs p + i < count = omega (arith, run_inside p l) in
-        sym (ap (λ (t : List ℕ). slice_index t (first_refusal width ks gs p + i)) (offsets_view count pairs values) ∙ get_d_tabulate count (offset_at pairs) (first_refusal width ks gs p + i) 0 j)
+        let j : first_diagonal width ks gs p + i < count = omega (arith, run_inside p l) in
+        sym (ap (λ (t : List ℕ). slice_index t (first_diagonal width ks gs p + i)) (offsets_view count pairs values) ∙ get_or_tabulate count (offset_at pairs) (first_diagonal width ks gs p + i) 0 j)
         ∙ planned_diagonal map_planned p i l h
 
-    pub run_above : slice_index_or gs p 0 ≤ offset_at pairs (first_refusal width ks gs p + i)
+    pub run_above : slice_index_or gs p 0 ≤ offset_at pairs (first_diagonal width ks gs p + i)
     run_above = omega (arith, run_offset)
 
-    run_baby : offset_at pairs (first_refusal width ks gs p + i) - slice_index gs p ≡ slice_index (babies_at width ks (slice_index gs p)) i
+    run_baby : offset_at pairs (first_diagonal width ks gs p + i) - slice_index gs p ≡ slice_index (babies_at width ks (slice_index gs p)) i
     run_baby = omega (arith, run_offset)
 
     -- less the giant it is a baby of the plan
-    pub run_among : slots ≤ 65536 → among (offset_at pairs (first_refusal width ks gs p + i) - slice_index gs p) (plan_babies slots strategy ks) ≡ true
+    pub run_among : slots ≤ 65536 → among (offset_at pairs (first_diagonal width ks gs p + i) - slice_index gs p) (plan_babies slots strategy ks) ≡ true
     run_among low = rw run_baby (plan_babies_have slots low strategy ks (slice_index (babies_at width ks (slice_index gs p)) i) (planned_among map_planned p i l h))
 
-    run_stretch : stretch (view count pairs values) (slice_index gs p + slice_index (babies_at width ks (slice_index gs p)) i) ≡ (diagonal_at pairs values (first_refusal width ks gs p + i)).values
+    run_stretch : stretch (view count pairs values) (slice_index gs p + slice_index (babies_at width ks (slice_index gs p)) i) ≡ (diagonal_at pairs values (first_diagonal width ks gs p + i)).values
     unfolding view
     run_stretch =
-        let j : first_refusal width ks gs p + i < count = omega (arith, run_inside p l) in
-        stretch_found (slice_index gs p + slice_index (babies_at width ks (slice_index gs p)) i) count (diagonal_at pairs values) (first_refusal width ks gs p + i) j run_offset
-        (λ k m q. omega (arith, w.rising k (first_refusal width ks gs p + i) m j, run_offset))
+        let j : first_diagonal width ks gs p + i < count = omega (arith, run_inside p l) in
+        stretch_found (slice_index gs p + slice_index (babies_at width ks (slice_index gs p)) i) count (diagonal_at pairs values) (first_diagonal width ks gs p + i) j run_offset
+        (λ k m q. omega (arith, w.rising k (first_diagonal width ks gs p + i) m j, run_offset))
 
   -- the node of the p-th giant is the sum over its diagonals
   pub node_run_lem : (m : ℕ) (input cache : List ℕ) (p s : ℕ) → p < length gs
-      → node_at m slots strategy (view count pairs values) input cache (slice_index gs p) s ≡ node_run m slots (plan_babies slots strategy ks) pairs values input cache (slice_index gs p) (first_refusal width ks gs p) (size_of width ks gs p) s
+      → node_at m slots strategy (view count pairs values) input cache (slice_index gs p) s ≡ node_run m slots (plan_babies slots strategy ks) pairs values input cache (slice_index gs p) (first_diagonal width ks gs p) (size_of width ks gs p) s
   unfolding node_at
   node_run_lem m input cache p s l =
       let ds = view count pairs values in
@@ -194,5 +194,5 @@ module _ {slots count : ℕ} {pairs values : List ℕ} (w : WellFormed slots cou
       let bs = plan_babies slots strategy ks in
       let f : ℕ → ℕ = λ k. mulm m (slice_index (source_vector slots input cache (source_of bs k)) s) (cell (stretch ds (g + k)) ((s + (slots - g)) % slots)) in
       ap (sum_by m f) (tabulate_get_or own 0)
-      ∙ sum_tables m (length own) f (node_term m slots bs pairs values input cache g s) (λ i. slice_index own i) (λ i. first_refusal width ks gs p + i)
+      ∙ sum_tables m (length own) f (node_term m slots bs pairs values input cache g s) (λ i. slice_index own i) (λ i. first_diagonal width ks gs p + i)
       (λ i h. rw (run_baby p i l h, run_stretch p i l h))

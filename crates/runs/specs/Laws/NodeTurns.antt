@@ -8,7 +8,7 @@ use native.Mathlib.Omega.{arith}
 use Rattle.ring.specs.Lists.{Rising, sum_by}
 use Rattle.ring.specs.Vectors.{tabulate}
 use Rattle.ring.specs.Laws.Lists.{each_tabulate, sum_by_each}
-use Rattle.ring.specs.Laws.Vectors.{get_d_tabulate}
+use Rattle.ring.specs.Laws.Vectors.{get_or_tabulate}
 use Rattle.linear_transformation.specs.Closures.{nonzeros}
 use Rattle.runs.specs.Switches.{place_of, giant, own_giants}
 use Rattle.runs.specs.Machines.{State, vector_at, put_vector, turned, switched, switched_all, node_sum}
@@ -94,7 +94,7 @@ module _ (m slots : ℕ) (p : 0 < slots) (input gs : List ℕ) (rises : Rising g
       (record { size = refl; done = λ q h i s l. absurd (not-suc-le-zero h); todo = λ q h i. refl }) in
       record {
         slot = λ s l.
-            get_d_tabulate slots (λ s. sum_by m (λ place. slice_index (vector_at slots nodes place) s) (tabulate (length gs) (λ place. place))) s 0 l
+            get_or_tabulate slots (λ s. sum_by m (λ place. slice_index (vector_at slots nodes place) s) (tabulate (length gs) (λ place. place))) s 0 l
             ∙ sum_by_each m (λ place. slice_index (vector_at slots nodes place) s) (λ place. slice_index (vector_at slots st.nodes place) ((s + slice_index gs place) % slots)) (tabulate (length gs) (λ place. place))
             (each_tabulate (λ place. slice_index (vector_at slots nodes place) s ≡ slice_index (vector_at slots st.nodes place) ((s + slice_index gs place) % slots)) (length gs) (λ place. place) (λ q h. t.done q h h s l));
         nodes_size = t.size;

@@ -10,7 +10,7 @@ use Rattle.std.proofs.Math.ListN.{length-drop}
 use Rattle.std.proofs.Math.Seq.{length-take-le, get_or-take, get_or-drop}
 use Rattle.ring.specs.Lists.{join}
 use Rattle.ring.specs.Vectors.{tabulate, in_front, put_at}
-use Rattle.ring.specs.Laws.Vectors.{length_in_front, in_front_new, length_tabulate, get_d_tabulate, join_tables}
+use Rattle.ring.specs.Laws.Vectors.{length_in_front, in_front_new, length_tabulate, get_or_tabulate, join_tables}
 use Rattle.ring.specs.Laws.Places.{length_put_at, put_at_before, put_at_new, put_at_behind}
 use Rattle.runs.specs.Machines.{vector_at, put_vector}
 
@@ -96,8 +96,8 @@ module _ (slots : ℕ) (p : 0 < slots) (f : ℕ → ℕ → ℕ) (gs old : List 
       let q : i * slots + s < length gs * slots = omega (arith, suc-mul i slots, e) in
       in_front_new words old (i * slots + s) 0 (omega (arith, length_vectors))
       ∙ ap (λ (x : List ℕ). slice_index x (i * slots + s)) (join_tables slots p f 0 gs)
-      ∙ get_d_tabulate (length gs * slots) _ (i * slots + s) 0 q
-      ∙ rw (quotient s k, remainder s k) (sym (get_d_tabulate slots (f (slice_index gs i)) s 0 k)))
+      ∙ get_or_tabulate (length gs * slots) _ (i * slots + s) 0 q
+      ∙ rw (quotient s k, remainder s k) (sym (get_or_tabulate slots (f (slice_index gs i)) s 0 k)))
     where
       quotient : (s : ℕ) → s < slots → (i * slots + s) / slots ≡ i
       quotient s k = rw (add_comm (i * slots) s, add-mul-div_right s i p, div-eq_of_lt k) (zero-add i)

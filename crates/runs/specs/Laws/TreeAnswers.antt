@@ -10,7 +10,7 @@ use Rattle.ring.specs.Lists.{Each, Rising, sum_by}
 use Rattle.ring.specs.Vectors.{tabulate}
 use Rattle.ring.specs.Laws.Lists.{each_at, each_map, map_each, each_both}
 use Rattle.ring.specs.Laws.Residues.{residue_lt}
-use Rattle.ring.specs.Laws.Vectors.{get_d_tabulate}
+use Rattle.ring.specs.Laws.Vectors.{get_or_tabulate}
 use Rattle.linear_transformation.specs.declared.digits.Rot.{Rot}
 use Rattle.linear_transformation.specs.Digits.{Giant, digit, bits_of, leaf, level_rotation}
 use Rattle.linear_transformation.specs.Trees.{there, levels_of, tree_of, pairs_at}
@@ -94,7 +94,7 @@ module _ (slots width : ℕ) (ks : List ℕ) where
 -- the top node, of no leaves and of some
 top_slot : (slots b : ℕ) (ls nodes : List ℕ) (s x : ℕ) → s < slots → (0 < length ls → slice_index ls 0 < 2 ^ b) → (length ls ≡ 0 → 0 ≡ x) → (there ls b 0 ≡ true → slice_index (vector_at slots nodes (node_place ls b 0)) s ≡ x)
     → slice_index (top_node slots b ls nodes) s ≡ x
-top_slot slots b [] nodes s x l low none some = get_d_tabulate slots (λ s. 0) s 0 l ∙ none refl
+top_slot slots b [] nodes s x l low none some = get_or_tabulate slots (λ s. 0) s 0 l ∙ none refl
 top_slot slots b (y ∷ ls) nodes s x l low none some = some (top_there y ls b (low (omega arith)))
 
 module _ (m slots width : ℕ) (ks : List ℕ) (p : Planned slots width ks) (h : 0 < slots) (input : List ℕ) (st : State)

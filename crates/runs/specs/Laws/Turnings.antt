@@ -7,7 +7,7 @@ use Rattle.ring.specs.Slots.{addm}
 use Rattle.ring.specs.Vectors.{tabulate}
 use Rattle.ring.specs.Laws.Residues.{residue_pos}
 use Rattle.ring.specs.Laws.Rotations.{length_rotated, get_or_rotated}
-use Rattle.ring.specs.Laws.Vectors.{length_tabulate, get_d_tabulate}
+use Rattle.ring.specs.Laws.Vectors.{length_tabulate, get_or_tabulate}
 use Rattle.runs.specs.Machines.{State, vector_at, turned, summed}
 
 -- ---- vectors
@@ -26,7 +26,7 @@ module _ (m slots : ℕ) (v w : List ℕ) where
 
   pub get_or_summed : (s : ℕ) → s < slots → slice_index (summed m slots v w) s ≡ addm m (slice_index v s) (slice_index w s)
   unfolding summed
-  get_or_summed s l = get_d_tabulate slots _ s 0 l
+  get_or_summed s l = get_or_tabulate slots _ s 0 l
 
 -- ---- the giant switches
 

@@ -53,8 +53,8 @@ pub record AddTurn (slots : ℕ) (buffer : List ℕ) (even odd k : ℕ) : Type 0
 -- ---- nodes
 
 -- the diagonals of the p-th giant: from which place of the map on they stand, and how many they are
-abbrev pub first_refusal : ℕ → List ℕ → List ℕ → ℕ → ℕ
-first_refusal width ks gs p = length (join (babies_at width ks) (take p gs))
+abbrev pub first_diagonal : ℕ → List ℕ → List ℕ → ℕ → ℕ
+first_diagonal width ks gs p = length (join (babies_at width ks) (take p gs))
 
 abbrev pub size_of : ℕ → List ℕ → List ℕ → ℕ → ℕ
 size_of width ks gs p = length (babies_at width ks (slice_index gs p))

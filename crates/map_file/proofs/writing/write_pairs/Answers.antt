@@ -5,7 +5,7 @@ use mathlib.Core.List.{List}
 use native.Mathlib.Omega.{arith}
 use lib.ListN.{length, get_or}
 use Rattle.ring.specs.Vectors.{put_at}
-use Rattle.ring.specs.Laws.Vectors.{get_d_tabulate}
+use Rattle.ring.specs.Laws.Vectors.{get_or_tabulate}
 use Rattle.ring.specs.Laws.Places.{put_both}
 use Rattle.diagonals.specs.Maps.{Diagonal, offset_at, length_at, diagonal_at, view, WellFormed}
 use Rattle.diagonals.specs.Laws.Maps.{length_view}
@@ -22,7 +22,7 @@ pair_put {slots} {count} {i} {at} {to} {x} {y} {pairs} {values} d old w l e room
     k
     ∙ ap (put_at to (bytes_of 4 y)) h
     ∙ put_both at to (bytes_of 4 x) (bytes_of 4 y) old room (e ∙ ap (λ (n : ℕ). at + n) (sym (length_bytes_of 4 x)))
-    ∙ rw (get_d_tabulate count (diagonal_at pairs values) i d l, w.whole i l, eo, el)
+    ∙ rw (get_or_tabulate count (diagonal_at pairs values) i d l, w.whole i l, eo, el)
 
 pub loop-i-init : goal.loop-i-init
 loop-i-init c = filing_none _ _ _ _
