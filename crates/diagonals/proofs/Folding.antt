@@ -1,6 +1,11 @@
 -- The walk that finds the common period: what the loop of `common_period` keeps, and a turn.
 -- Assumes nothing.
-use Rattle.std.proofs.Common.{◌≡◌, ℕ, ◌+◌, ◌<◌, ◌≤◌, List, [], ◌∷◌, map, length, take, drop, sym, refl, ap, ◌∙◌, le_refl, arith}
+use Rattle.ring.specs.Laws.Answers.{same_value}
+use Rattle.ring.specs.Calls.{period_refusal, lcm_refusal}
+use Rattle.ring.specs.Answers.{answered}
+use Rattle.ring.specs.declared.refusal.Refusal.{Refusal}
+use Rattle.ring.specs.Laws.Refusals.{inside, not_outside}
+use Rattle.std.proofs.Common.{◌≡◌, ℕ, ◌+◌, ◌<◌, ◌≤◌, List, [], ◌∷◌, map, length, drop, sym, refl, ap, ◌∙◌, le_refl, arith, false, Result, Ok}
 use Prim.Native.Nat.{◌∣◌}
 use mathlib.Core.List.{map-append}
 use native.Mathlib.Nat.{le_of_dvd, one-dvd, dvd_trans}
@@ -10,22 +15,22 @@ use Rattle.ring.specs.Periods.{min_period}
 use Rattle.ring.specs.Laws.Lists.{each_map}
 use Rattle.ring.specs.Laws.Divisors.{lcm_law, lcm_pos, lcm_all_snoc}
 use Rattle.ring.specs.Laws.Periods.{min_is, positive}
-use Rattle.diagonals.specs.Maps.{diagonal_at, length_at, start_at, view, WellFormed}
+use Rattle.diagonals.specs.Maps.{diagonal_at, start_at, view, WellFormed}
 use Rattle.diagonals.specs.Shrinking.{common_period}
-use Rattle.ring.specs.Refusals.{Range}
+use Rattle.ring.specs.Refusals.{Range, outside}
 use Rattle.diagonals.specs.Steps.Writing.{Common}
-use Rattle.diagonals.specs.Laws.Maps.{start_more, values_end, view_more, each_view}
+use Rattle.diagonals.specs.Laws.Maps.{view_more, each_view}
 
-pub record Folding (slots count : ℕ) (pairs values : List ℕ) (period start i : ℕ) : Type 0 where
+pub record Folding (slots count : ℕ) (pairs values : List ℕ) (period : ℕ) (rest : List ℕ) (i : ℕ) : Type 0 where
   pub room : i ≤ count
-  pub start_is : start ≡ start_at pairs i
+  pub rest_is : rest ≡ drop (start_at pairs i) values
   pub period_is : period ≡ common_period (view i pairs values)
   pub some : 1 ≤ period
   pub divides : period ∣ slots
 
-pub folding_none : (slots count : ℕ) (pairs values : List ℕ) → Folding slots count pairs values 1 0 0
+pub folding_none : (slots count : ℕ) (pairs values : List ℕ) → Folding slots count pairs values 1 values 0
 unfolding common_period view
-folding_none slots count pairs values = record { room = omega arith; start_is = refl; period_is = refl; some = le_refl 1; divides = one-dvd slots }
+folding_none slots count pairs values = record { room = omega arith; rest_is = refl; period_is = refl; some = le_refl 1; divides = one-dvd slots }
 
 abbrev pub smallest_at : List ℕ → List ℕ → ℕ → ℕ
 smallest_at pairs values i = min_period (diagonal_at pairs values i).values
@@ -41,43 +46,57 @@ module _ {slots count : ℕ} {pairs values : List ℕ} (w : WellFormed slots cou
   pub smallest_some : 1 ≤ smallest_at pairs values i
   smallest_some = positive (min_is _ some_values)
 
-module _ {slots count : ℕ} {pairs values : List ℕ} {period start i : ℕ} (w : WellFormed slots count pairs values) (f : Folding slots count pairs values period start i) (l : i < count) where
+module _ {slots count : ℕ} {pairs values rest : List ℕ} {period i : ℕ} (w : WellFormed slots count pairs values) (f : Folding slots count pairs values period rest i) (l : i < count) where
   -- the smallest periods of the diagonals passed
   passed : Each (λ x. 1 ≤ x) (map (λ d. min_period d.values) (view i pairs values))
   passed = each_map (λ x. 1 ≤ x) (λ d. min_period d.values) (view i pairs values) (each_view (λ d. 1 ≤ min_period d.values) i pairs values (λ j m. smallest_some w j (omega (arith, f.room))))
 
-  pub folding_more : {e m p : ℕ} → e ≡ start + length_at pairs i → m ≡ smallest_at pairs values i → p ≡ lcm_of period m → Folding slots count pairs values p e (i + 1)
+  pub folding_more : {m p : ℕ} {behind : List ℕ} → behind ≡ drop (start_at pairs (i + 1)) values → m ≡ smallest_at pairs values i → p ≡ lcm_of period m → Folding slots count pairs values p behind (i + 1)
   unfolding common_period
-  folding_more {e} {m} {p} ee em ep =
+  folding_more {m} {p} eb em ep =
       let s = smallest_at pairs values i in
       let q : p ≡ lcm_of period s = ep ∙ ap (lcm_of period) em in
       let h = lcm_law period s f.some (smallest_some w i l) in
       let d : lcm_of period s ∣ slots = h.most slots f.divides (smallest_divides w i l) in
       record {
         room = omega arith;
-        start_is = ee ∙ ap (λ (x : ℕ). x + length_at pairs i) f.start_is ∙ sym (start_more pairs i);
+        rest_is = eb;
         period_is = q ∙ ap (λ (x : ℕ). lcm_of x s) f.period_is ∙ sym (lcm_all_snoc (map (λ d. min_period d.values) (view i pairs values)) s passed (smallest_some w i l)) ∙ ap lcm_all (sym (map-append (λ d. min_period d.values) (view i pairs values) (diagonal_at pairs values i ∷ [])) ∙ ap (map (λ d. min_period d.values)) (sym (view_more i pairs values)));
         some = rw q (lcm_pos period s f.some (smallest_some w i l));
         divides = rw q d;
       }
 
-  -- where the values of the i-th end
-  pub folding_end : start + length_at pairs i ≤ length values
-  folding_end = rw f.start_is (values_end w i l)
-
-  -- the part of the values that is the i-th period
-  pub part_is : {x : ℕ} → x ≡ length_at pairs i → take x (drop start values) ≡ (diagonal_at pairs values i).values
-  part_is e = rw (e, f.start_is)
-
-  pub part_range : {x : ℕ} → Range slots → x ≡ length_at pairs i → Range (length (take x (drop start values)))
-  part_range r e = rw (part_is e) (record { low = (w.each i l).some; high = omega (arith, le_of_dvd r.low (w.each i l).divides, r.high) })
+  -- the part that is split off is not refused
+  pub part_range : {part : List ℕ} → Range slots → part ≡ (diagonal_at pairs values i).values → Range (length part)
+  part_range r e = rw e (record { low = (w.each i l).some; high = omega (arith, le_of_dvd r.low (w.each i l).divides, r.high) })
 
   -- the two periods whose common one is taken
   pub smallest_range : Range slots → Range (smallest_at pairs values i)
   smallest_range r = record { low = smallest_some w i l; high = omega (arith, le_of_dvd r.low (smallest_divides w i l), r.high) }
 
-pub period_range : {slots count : ℕ} {pairs values : List ℕ} {period start i : ℕ} → Folding slots count pairs values period start i → Range slots → Range period
+pub period_range : {slots count : ℕ} {pairs values rest : List ℕ} {period i : ℕ} → Folding slots count pairs values period rest i → Range slots → Range period
 period_range f r = record { low = f.some; high = omega (arith, le_of_dvd r.low f.divides, r.high) }
 
-pub folding_done : {slots count : ℕ} {pairs values : List ℕ} {period start i : ℕ} → Folding slots count pairs values period start i → Range slots → count ≤ i → Common (view count pairs values) period
+pub folding_done : {slots count : ℕ} {pairs values rest : List ℕ} {period i : ℕ} → Folding slots count pairs values period rest i → Range slots → count ≤ i → Common (view count pairs values) period
 folding_done {count} {i} f r l = let e : count ≡ i = omega (arith, f.room) in record { is = rw e f.period_is; range = period_range f r }
+
+-- neither a stored diagonal nor a period of one is refused
+pub range_of : (slots : ℕ) → outside slots ≡ false → Range slots
+range_of slots o = let s = inside slots o in record { low = s.0; high = s.1 }
+
+period_given : (part : List ℕ) {r : Result ℕ Refusal} → Range (length part) → r ≡ answered (period_refusal part) (min_period part) → r ≡ Ok (min_period part)
+period_given part g e = e ∙ rw (not_outside (length part) g.low g.high) refl
+
+lcm_given : (a b : ℕ) {r : Result ℕ Refusal} → Range a → Range b → r ≡ answered (lcm_refusal a b) (lcm_of a b) → r ≡ Ok (lcm_of a b)
+lcm_given a b g h e = e ∙ rw (not_outside a g.low g.high, not_outside b h.low h.high) refl
+
+-- the smallest period of the part that is split off, and the common period with it
+module _ {slots count : ℕ} {pairs values rest : List ℕ} {period i : ℕ} (w : WellFormed slots count pairs values) (f : Folding slots count pairs values period rest i) (l : i < count) (o : outside slots ≡ false) where
+  pub smallest_given : (part : List ℕ) {r : Result ℕ Refusal} → part ≡ (diagonal_at pairs values i).values → r ≡ answered (period_refusal part) (min_period part) → r ≡ Ok (min_period part)
+  smallest_given part p e = period_given part (part_range w f l (range_of slots o) p) e
+
+  pub smallest_is : (part : List ℕ) {r : Result ℕ Refusal} {v : ℕ} → part ≡ (diagonal_at pairs values i).values → r ≡ answered (period_refusal part) (min_period part) → r ≡ Ok v → v ≡ smallest_at pairs values i
+  smallest_is part p e q = same_value (sym q ∙ smallest_given part p e) ∙ ap min_period p
+
+  pub common_given : (v : ℕ) {r : Result ℕ Refusal} → v ≡ smallest_at pairs values i → r ≡ answered (lcm_refusal period v) (lcm_of period v) → r ≡ Ok (lcm_of period v)
+  common_given v s e = lcm_given period v (period_range f (range_of slots o)) (rw s (smallest_range w f l (range_of slots o))) e

@@ -1,7 +1,11 @@
 -- The diagonal that stays first in the transposed map, and the number of values of that map.
 -- Assumes nothing.
-use Rattle.ring.specs.Refusals.{first_refusal}
-use Rattle.std.proofs.Common.{◌≡◌, ℕ, zero, suc, ◌+◌, ◌-◌, ◌<◌, ◌≤◌, Bool, true, false, cond, ◌&&◌, eqb, ltb, List, [], ◌∷◌, length, take, pos, sym, refl, ap, ◌∙◌, ⊎_elim, lt_irrefl, eq-or-lt_of_le, arith, length-append, ltb-true, le-ltb}
+use Rattle.std.proofs.Math.Bool.{and-false}
+use Rattle.std.specs.Prelude.{Result}
+use Rattle.ring.specs.declared.refusal.Refusal.{Refusal}
+use Rattle.ring.specs.Answers.{judged}
+use Rattle.ring.specs.Refusals.{Range, first_refusal}
+use Rattle.std.proofs.Common.{◌≡◌, ℕ, zero, suc, ◌+◌, ◌-◌, ◌<◌, ◌≤◌, Bool, true, false, cond, ◌&&◌, eqb, ltb, List, [], ◌∷◌, length, take, pos, sym, refl, ap, ◌∙◌, arith, length-append, ltb-true, le-ltb, ne_eqb, lt-ltb}
 use native.Mathlib.Nat.{sub-zero, le_of_dvd}
 use Rattle.ring.specs.Laws.Searches.{first as first_of}
 use Rattle.ring.specs.Laws.Vectors.{length_tabulate, tabulate_more}
@@ -10,7 +14,6 @@ use Rattle.ring.specs.Laws.Rotations.{length_rotated}
 use Rattle.diagonals.specs.Maps.{Diagonal, diagonal_at, offset_at, length_at, start_at, view, WellFormed, pair_words, value_words, pair_room}
 use Rattle.diagonals.specs.Transposing.{opposite, turned, transposed}
 use Rattle.diagonals.specs.Steps.Writing.{Words, Turning, Turned, Transposing, Rest, leading, turned_at}
-use Rattle.diagonals.specs.Steps.Reading.{Placed}
 use Rattle.diagonals.specs.Calls.{map_room, RoomJudged}
 use Rattle.diagonals.specs.Laws.Calls.{room_of}
 use Rattle.diagonals.specs.Laws.Maps.{stored_some, stored_divides, values_inside, start_more, start_mono}
@@ -77,9 +80,19 @@ module _ {slots count : ℕ} {pairs values : List ℕ} (w : WellFormed slots cou
 
 -- ---- the first that stay
 
-module _ {slots count : ℕ} {pairs values : List ℕ} {total : ℕ} {pairs₀ values₀ : List ℕ} (t : Transposing slots count pairs values total pairs₀ values₀) where
+module _ (count : ℕ) (pairs : List ℕ) where
+  pub leads_none : count ≡ 0 → leads count pairs ≡ false
+  leads_none e = rw e refl
+
+  pub leads_other : (offset_at pairs 0 ≡ 0 → ⊥) → leads count pairs ≡ false
+  leads_other n = rw (ne_eqb (offset_at pairs 0) 0 n) (and-false (ltb 0 count))
+
+  pub leads_zero : (count ≡ 0 → ⊥) → offset_at pairs 0 ≡ 0 → leads count pairs ≡ true
+  leads_zero n e = rw (lt-ltb 0 count (omega (arith, n)), e) refl
+
+module _ {slots count : ℕ} {pairs values : List ℕ} (o : Range slots) (formed : WellFormed slots count pairs values) {pairs₀ values₀ : List ℕ} (t : Transposing count pairs pairs₀ values₀) where
   -- none does
-  pub rest_none : leads count pairs ≡ false → Rest slots count 0 pairs values total 0 pairs₀ values₀
+  pub rest_none : leads count pairs ≡ false → Rest slots count 0 pairs values 0 pairs₀ values₀
   unfolding value_words
   rest_none e =
       record { whole = t; lead = rw e; inside = omega arith; front_is = refl; front_words = refl; there = words_none pairs₀ values₀ }
@@ -90,33 +103,33 @@ module _ {slots count : ℕ} {pairs values : List ℕ} {total : ℕ} {pairs₀ v
     some_first = ltb-true 0 count (first_of (ltb 0 count) (eqb (offset_at pairs 0) 0) e)
 
     abbrev part : List ℕ
-    part = take (w - 0) values
+    part = take w values
 
     part_is : part ≡ (diagonal_at pairs values 0).values
-    part_is = rw (sub-zero, ew)
+    part_is = rw ew
 
     part_length : length part ≡ w
-    part_length = ap length part_is ∙ t.formed.whole 0 some_first ∙ sym ew
+    part_length = ap length part_is ∙ formed.whole 0 some_first ∙ sym ew
 
     first_fits : w ≤ start_at pairs count
     first_fits = omega (arith, start_mono pairs 1 count some_first)
 
     pub first_inside : w ≤ length values
-    first_inside = omega (arith, first_fits, values_inside t.formed)
+    first_inside = omega (arith, first_fits, values_inside formed)
 
-    pub first_turning : Turning slots pairs 0 part 0 0 pairs₀ values₀
+    pub first_turning : Turning slots (offset_at pairs 0) part 0 0 pairs₀ values₀
     first_turning =
-        let f = t.formed.each 0 some_first in
-        let s = t.slots_in_fact in
+        let f = formed.each 0 some_first in
+        let s = o in
         record {
           slots_in_fact = s;
           low = f.low;
-          part_in = rw part_length (record { low = omega (arith, stored_some t.formed 0 some_first); high = omega (arith, le_of_dvd s.low (stored_divides t.formed 0 some_first), s.high) });
+          part_in = rw part_length (record { low = omega (arith, stored_some formed 0 some_first); high = omega (arith, le_of_dvd s.low (stored_divides formed 0 some_first), s.high) });
           pairs_room = omega (arith, some_first, t.pairs_room, room_mono 1 count some_first);
-          values_room = omega (arith, part_length, first_fits, t.total_is, t.values_room);
+          values_room = omega (arith, part_length, first_fits, t.values_room);
         }
 
-    module _ {pairs₁ values₁ : List ℕ} (a : Turned slots pairs 0 part 0 0 pairs₀ pairs₁ values₀ values₁) where
+    module _ {pairs₁ values₁ : List ℕ} (a : Turned slots (offset_at pairs 0) part 0 0 pairs₀ pairs₁ values₀ values₁) where
       abbrev d : Diagonal
       d = turned slots (diagonal_at pairs values 0)
 
@@ -143,14 +156,14 @@ module _ {slots count : ℕ} {pairs values : List ℕ} {total : ℕ} {pairs₀ v
       lengths : (length pairs₁ ≡ length pairs₀) × (length values₁ ≡ length values₀)
       lengths = words_lengths one first_turning.pairs_room (omega (arith, one_values, part_length, first_turning.values_room))
 
-      pub rest_one : Rest slots count 1 pairs values total w pairs₁ values₁
+      pub rest_one : Rest slots count 1 pairs values w pairs₁ values₁
       rest_one =
           record {
-            whole = record { slots_in_fact = t.slots_in_fact; formed = t.formed; total_is = t.total_is; pairs_room = omega (arith, lengths.0, t.pairs_room); values_room = omega (arith, lengths.1, t.values_room) };
+            whole = record { pairs_room = omega (arith, lengths.0, t.pairs_room); values_room = omega (arith, lengths.1, t.values_room) };
             lead = rw e;
             inside = some_first;
             front_is = omega arith;
-            front_words = sym (base t.formed true e ∙ omega arith);
+            front_words = sym (base formed true e ∙ omega arith);
             there = words_there one (omega (arith, one_pairs, first_turning.pairs_room)) (omega (arith, one_values, part_length, first_turning.values_room));
           }
 
@@ -158,24 +171,16 @@ module _ {slots count : ℕ} {pairs values : List ℕ} {total : ℕ} {pairs₀ v
       pub rest_done : {pairs₂ values₂ : List ℕ} → Words (transposed slots (view count pairs values)) pairs₁ pairs₂ values₁ values₂ → Words (transposed slots (view count pairs values)) pairs₀ pairs₂ values₀ values₂
       rest_done v =
           words_then one v
-          (omega (arith, one_pairs, length_pair_words (transposed slots (view count pairs values)), ap pair_room (length_transposed t.formed), room_mono 1 count some_first))
+          (omega (arith, one_pairs, length_pair_words (transposed slots (view count pairs values)), ap pair_room (length_transposed formed), room_mono 1 count some_first))
           (omega (arith, one_pairs, first_turning.pairs_room))
-          (omega (arith, one_values, values_transposed t.formed, first_fits))
+          (omega (arith, one_values, values_transposed formed, first_fits))
           (omega (arith, one_values, part_length, first_turning.values_room))
 
 -- ---- the room that a transposed map takes
-
--- every offset is below 65,536, so the place of 65,536 is past the last pair
-pub whole_place : {slots count : ℕ} {pairs values : List ℕ} {index start : ℕ} → WellFormed slots count pairs values → slots ≤ 65536 → Placed count pairs 65536 index start → start ≡ start_at pairs count
-whole_place {count} {pairs} {index} w s p =
-    ⊎_elim
-    (λ (e : index ≡ count). p.start_is ∙ ap (start_at pairs) e)
-    (λ (l : index < count). absurd (lt_irrefl 65536 (omega (arith, p.here l, (w.each index l).low))))
-    (eq-or-lt_of_le p.inside)
 
 module _ {slots count : ℕ} {pairs values : List ℕ} (w : WellFormed slots count pairs values) {total : ℕ} (e : total ≡ start_at pairs count) (pairs₀ values₀ : List ℕ) where
   abbrev ds : List Diagonal
   ds = transposed slots (view count pairs values)
 
-  pub transposed_room : {r : ℕ} → RoomJudged count total (length pairs₀) (length values₀) r → r ≡ first_refusal (map_room ds pairs₀ values₀)
+  pub transposed_room : {r : Result Unit Refusal} → RoomJudged count total (length pairs₀) (length values₀) r → r ≡ judged (first_refusal (map_room ds pairs₀ values₀))
   transposed_room j = room_of ds pairs₀ values₀ (sym (length_transposed w)) (e ∙ sym (values_transposed w)) j

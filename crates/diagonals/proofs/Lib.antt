@@ -1,4 +1,10 @@
 -- Laws that several proofs cite.
+pub mod Chunks
+pub mod Counting
+pub mod Deciding
+pub mod Walking
+pub mod Reversing
+pub mod Zipping
 pub mod Folding
 pub mod Shrinkage
 pub mod Turnings

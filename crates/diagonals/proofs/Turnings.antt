@@ -5,9 +5,10 @@ use Rattle.std.proofs.Common.{◌≡◌, ℕ, ◌+◌, ◌-◌, ◌<◌, ◌≤�
 use native.Mathlib.Nat.{le_of_dvd}
 use Rattle.ring.specs.Vectors.{tabulate}
 use Rattle.ring.specs.Laws.Vectors.{length_tabulate, tabulate_more}
+use Rattle.ring.specs.Refusals.{Range}
 use Rattle.ring.specs.Rotations.{rotated}
 use Rattle.ring.specs.Laws.Rotations.{length_rotated}
-use Rattle.diagonals.specs.Maps.{Diagonal, diagonal_at, offset_at, length_at, start_at, view, value_words, pair_room}
+use Rattle.diagonals.specs.Maps.{Diagonal, diagonal_at, offset_at, length_at, start_at, view, value_words, pair_room, WellFormed}
 use Rattle.diagonals.specs.Transposing.{opposite, turned, transposed}
 use Rattle.diagonals.specs.Steps.Writing.{Words, Turning, Turned, Rest, source, turned_at}
 use Rattle.diagonals.specs.Laws.Maps.{stored_some, stored_divides, values_inside, start_more, start_mono}
@@ -19,29 +20,29 @@ use Rattle.diagonals.specs.Laws.Transposing.{transposed_is, turned_values}
 abbrev pub front_of : ℕ → ℕ → ℕ → List ℕ → List ℕ → ℕ → List Diagonal
 front_of slots count first pairs values n = tabulate n (turned_at slots count first pairs values)
 
-pub record Turnings (slots count first : ℕ) (pairs values : List ℕ) (total : ℕ) (pairs₀ pairs₁ values₀ values₁ : List ℕ) (end at i n : ℕ) : Type 0 where
+pub record Turnings (slots count first : ℕ) (pairs values pairs₀ pairs₁ values₀ values₁ : List ℕ) (end at i n : ℕ) : Type 0 where
   pub room : n ≤ count
   pub low : first ≤ n
   pub down : i + n ≡ count + first
   pub end_is : end ≡ start_at pairs i
-  pub at_end : at + end ≡ total + start_at pairs first
+  pub at_end : at + end ≡ start_at pairs count + start_at pairs first
   pub at_is : at ≡ length (value_words (front_of slots count first pairs values n))
   pub words : Words (front_of slots count first pairs values n) pairs₀ pairs₁ values₀ values₁
 
-module _ {slots count first : ℕ} {pairs values : List ℕ} {total front : ℕ} {pairs₀ values₀ : List ℕ} (r : Rest slots count first pairs values total front pairs₀ values₀) where
-  pub turnings_none : Turnings slots count first pairs values total pairs₀ pairs₀ values₀ values₀ total front count first
-  turnings_none =
+module _ {slots count first : ℕ} {pairs values : List ℕ} {front : ℕ} {pairs₀ values₀ : List ℕ} (o : Range slots) (w : WellFormed slots count pairs values) (r : Rest slots count first pairs values front pairs₀ values₀) where
+  pub turnings_none : {total : ℕ} → total ≡ start_at pairs count → Turnings slots count first pairs values pairs₀ pairs₀ values₀ values₀ total front count first
+  turnings_none e =
       record {
         room = r.inside;
         low = omega arith;
         down = refl;
-        end_is = r.whole.total_is;
-        at_end = omega (arith, r.front_is);
+        end_is = e;
+        at_end = omega (arith, e, r.front_is);
         at_is = r.front_words;
         words = r.there;
       }
 
-  module _ {pairs₁ values₁ : List ℕ} {end at i n : ℕ} (t : Turnings slots count first pairs values total pairs₀ pairs₁ values₀ values₁ end at i n) where
+  module _ {pairs₁ values₁ : List ℕ} {end at i n : ℕ} (t : Turnings slots count first pairs values pairs₀ pairs₁ values₀ values₁ end at i n) where
     -- the buffers keep their lengths
     pub turnings_lengths : (length pairs₁ ≡ length pairs₀) × (length values₁ ≡ length values₀)
     turnings_lengths =
@@ -65,44 +66,44 @@ module _ {slots count first : ℕ} {pairs values : List ℕ} {total front : ℕ}
           let e : i ≡ taken + 1 = omega (arith, t.down, t.low) in
           t.end_is ∙ ap (start_at pairs) e ∙ start_more pairs taken
 
-      module _ {w : ℕ} (ew : w ≡ length_at pairs taken) where
-        pub turnings_start : end - w ≡ start_at pairs taken
+      module _ {len : ℕ} (ew : len ≡ length_at pairs taken) where
+        pub turnings_start : end - len ≡ start_at pairs taken
         turnings_start = omega (arith, starts)
 
-        pub turnings_fits : w ≤ end
+        pub turnings_fits : len ≤ end
         turnings_fits = omega (arith, starts)
 
         pub turnings_inside : end ≤ length values
-        turnings_inside = omega (arith, t.end_is, start_mono pairs i count (omega (arith, t.down, t.low)), values_inside r.whole.formed)
+        turnings_inside = omega (arith, t.end_is, start_mono pairs i count (omega (arith, t.down, t.low)), values_inside w)
 
-        pub turnings_part : take (end - (end - w)) (drop (end - w) values) ≡ (diagonal_at pairs values taken).values
+        pub turnings_part : take (end - (end - len)) (drop (end - len) values) ≡ (diagonal_at pairs values taken).values
         turnings_part =
-            let e : end - (end - w) ≡ length_at pairs taken = omega (arith, starts) in
+            let e : end - (end - len) ≡ length_at pairs taken = omega (arith, starts) in
             rw (e, turnings_start)
 
-        part_length : length (take (end - (end - w)) (drop (end - w) values)) ≡ w
-        part_length = ap length turnings_part ∙ r.whole.formed.whole taken taken_low ∙ sym ew
+        part_length : length (take (end - (end - len)) (drop (end - len) values)) ≡ len
+        part_length = ap length turnings_part ∙ w.whole taken taken_low ∙ sym ew
 
-        pub turnings_room : at + w ≤ total
+        pub turnings_room : at + len ≤ start_at pairs count
         turnings_room = omega (arith, t.at_end, starts, start_mono pairs first taken (omega (arith, t.down, t.low)))
 
-        pub turnings_turning : Turning slots pairs taken (take (end - (end - w)) (drop (end - w) values)) n at pairs₁ values₁
+        pub turnings_turning : Turning slots (offset_at pairs taken) (take (end - (end - len)) (drop (end - len) values)) n at pairs₁ values₁
         turnings_turning =
-            let f = r.whole.formed.each taken taken_low in
-            let s = r.whole.slots_in_fact in
+            let f = w.each taken taken_low in
+            let s = o in
             record {
               slots_in_fact = s;
               low = f.low;
-              part_in = rw part_length (record { low = omega (arith, stored_some r.whole.formed taken taken_low); high = omega (arith, le_of_dvd s.low (stored_divides r.whole.formed taken taken_low), s.high) });
+              part_in = rw part_length (record { low = omega (arith, stored_some w taken taken_low); high = omega (arith, le_of_dvd s.low (stored_divides w taken taken_low), s.high) });
               pairs_room = omega (arith, turnings_lengths.0, r.whole.pairs_room, room_mono (n + 1) count (omega arith));
               values_room = omega (arith, part_length, turnings_room, turnings_lengths.1, r.whole.values_room);
             }
 
-        pub turnings_more : {pairs₂ values₂ : List ℕ} → Turned slots pairs taken (take (end - (end - w)) (drop (end - w) values)) n at pairs₁ pairs₂ values₁ values₂
-            → Turnings slots count first pairs values total pairs₀ pairs₂ values₀ values₂ (end - w) (at + (end - (end - w))) taken (n + 1)
+        pub turnings_more : {pairs₂ values₂ : List ℕ} → Turned slots (offset_at pairs taken) (take (end - (end - len)) (drop (end - len) values)) n at pairs₁ pairs₂ values₁ values₂
+            → Turnings slots count first pairs values pairs₀ pairs₂ values₀ values₂ (end - len) (at + len) taken (n + 1)
         turnings_more a =
             let k = opposite slots (offset_at pairs taken) in
-            let part = take (end - (end - w)) (drop (end - w) values) in
+            let part = take (end - (end - len)) (drop (end - len) values) in
             let d = turned slots (diagonal_at pairs values taken) in
             let grown : front_of slots count first pairs values (n + 1) ≡ front_of slots count first pairs values n ++ (d ∷ []) =
             tabulate_more n (turned_at slots count first pairs values) ∙ ap (λ (m : ℕ). front_of slots count first pairs values n ++ (turned slots (diagonal_at pairs values m) ∷ [])) taken_is in

@@ -4,6 +4,7 @@ pub mod Maps
 pub mod Checking
 pub mod Words
 pub mod Calls
+pub mod Refusing
 pub mod Products
 pub mod Setting
 pub mod Reading

@@ -3,3 +3,4 @@ pub mod Reading
 pub mod Setting
 pub mod Writing
 pub mod Terms
+pub mod Accepting

@@ -4,40 +4,32 @@ use Prim.Native.Nat.{ℕ, zero, suc, ◌+◌, ◌^◌, ◌≤◌, ◌<◌}
 use mathlib.Core.Path.{◌≡◌, refl, sym, ap, ◌∙◌}
 use mathlib.Core.Bool.{Bool, true, false, true≢false}
 use mathlib.Core.List.{List, [], ◌∷◌}
-use native.Mathlib.Nat.{suc-ne-zero, not-suc-le-zero, le_of_suc-le-suc}
+use native.Mathlib.Nat.{not-suc-le-zero, le_of_suc-le-suc}
 use native.Mathlib.Numerals.{add-one}
 use native.Mathlib.Omega.{arith}
 use borrow.Author.Tests.{ltb-false}
-use lib.Dec.{T}
 use lib.IntN.{ℤ, pos, negsuc, nat_abs}
-use lib.Signed.{non_neg, mag}
+use lib.Signed.{mag}
 use lib.ListN.{length, get_or, take}
 use lib.Seq.{take-suc, take_all}
 use mir.Syntax.{w64}
-use mir.Val.{Fits, of_z, to_z}
+use mir.Val.{of_z, to_z}
 use mir.ValLaws.{to_z-of_z}
 use borrow.Author.Rules.{sfits_of}
 use Rattle.ring.specs.Lists.{Each, some}
-use Rattle.ring.specs.Laws.Lists.{each_append}
+use Rattle.std.specs.Prelude.{Result, Ok, Err}
+use Rattle.ring.specs.declared.refusal.Refusal.{Refusal}
+use Rattle.ring.specs.declared.refusal.Refusal.TheVariants.{Baby}
 use Rattle.ring.specs.Refusals.{first_refusal, Range}
-use Rattle.ring.specs.Laws.Refusals.{either, first_refused, first_later}
+use Rattle.ring.specs.Laws.Answers.{no_refused}
+use Rattle.ring.specs.Laws.Refusals.{either, first_later}
 use Rattle.linear_transformation.specs.Steps.Numbers.{StepsInside, StepsJudged}
 use Rattle.linear_transformation.specs.declared.rotations.BsgsRotations.{BsgsRotations}
 use Rattle.linear_transformation.specs.declared.rotations.BsgsRotations.TheVariants.{PerRotation, PowersOfTwo}
 use Rattle.linear_transformation.specs.Listed.{step_refusals, baby_refusals, baby_step_of, no_baby}
 use Rattle.ring.specs.Laws.Members.{some_append, left, right}
 use Rattle.linear_transformation.specs.Steps.Babies.{BabiesJudged, Small}
-
--- ---- the numbers
-
-pub steps_refused : {rotations : BsgsRotations} {r : ℕ} → suc r ≡ first_refusal (step_refusals rotations) → StepsJudged rotations (suc r)
-steps_refused {r} e = record { answer = e; inside = λ h. absurd (suc-ne-zero r h) }
-
--- ---- one baby
-
-pub small_casts : (z : ℤ) → Small z → T (non_neg z) × Fits w64 (nat_abs z)
-small_casts (pos n) s = (tt, record { fits = omega (arith, ltb-false 65535 n s.high) })
-small_casts (negsuc n) s = absurd (true≢false s.low)
+use Rattle.linear_transformation.proofs.Judgings.{none_of, some_of, still_refused}
 
 -- ---- the babies
 
@@ -96,33 +88,28 @@ range_of : (rotations : BsgsRotations) → StepsInside rotations → Range (baby
 range_of PerRotation h = record { low = omega arith; high = omega arith }
 range_of (PowersOfTwo baby_step giant_step slots) h = h.0
 
-numbered : (rotations : BsgsRotations) → Each (λ c. c.1 ≡ 0 → ⊥) (step_refusals rotations)
-numbered PerRotation = tt
-numbered (PowersOfTwo baby_step giant_step slots) = (suc-ne-zero 0, (suc-ne-zero 2, tt))
-
-pub babies_range : {rotations : BsgsRotations} {r : ℕ} → StepsJudged rotations r → r ≡ 0 → Range (baby_step_of rotations)
-babies_range {rotations} j h = range_of rotations (j.inside h)
-
-pub baby_numbered : (rotations : BsgsRotations) (bs : List ℤ) → Each (λ c. c.1 ≡ 0 → ⊥) (baby_refusals rotations bs)
-baby_numbered rotations bs = each_append (λ c. c.1 ≡ 0 → ⊥) (step_refusals rotations) _ (numbered rotations) (suc-ne-zero 8, tt)
-
-module _ {rotations : BsgsRotations} (bs : List ℤ) {r : ℕ} (j : StepsJudged rotations r) where
-  pub steps_first : (r ≡ 0 → ⊥) → BabiesJudged rotations bs r
-  steps_first n =
+module _ {rotations : BsgsRotations} (bs : List ℤ) {r : Result Unit Refusal} (j : StepsJudged rotations r) where
+  pub steps_first : {e : Refusal} → r ≡ Err e → BabiesJudged rotations bs (Err e)
+  steps_first h =
       record {
-        answer = j.answer ∙ sym (first_refused (step_refusals rotations) ((some (λ z. no_baby z (baby_step_of rotations)) bs, 9) ∷ []) (λ h. n (j.answer ∙ h)));
-        accepted = λ h. absurd (n h);
+        answer = rw (still_refused (step_refusals rotations) ((some (λ z. no_baby z (baby_step_of rotations)) bs, Baby) ∷ []) (some_of j.answer h));
+        accepted = λ q. no_refused q;
       }
 
-  later : r ≡ 0 → first_refusal (baby_refusals rotations bs) ≡ first_refusal ((some (λ z. no_baby z (baby_step_of rotations)) bs, 9) ∷ [])
-  later h = first_later (step_refusals rotations) ((some (λ z. no_baby z (baby_step_of rotations)) bs, 9) ∷ []) (numbered rotations) (sym j.answer ∙ h)
+  later : r ≡ Ok tt → first_refusal (baby_refusals rotations bs) ≡ first_refusal ((some (λ z. no_baby z (baby_step_of rotations)) bs, Baby) ∷ [])
+  later h = first_later (step_refusals rotations) ((some (λ z. no_baby z (baby_step_of rotations)) bs, Baby) ∷ []) (none_of j.answer h)
 
-  pub babies_refused : r ≡ 0 → true ≡ some (λ z. no_baby z (baby_step_of rotations)) bs → BabiesJudged rotations bs 9
-  babies_refused h e = record { answer = sym (later h ∙ rw (← e)); accepted = λ q. absurd (suc-ne-zero 8 q) }
+  pub babies_refused : r ≡ Ok tt → true ≡ some (λ z. no_baby z (baby_step_of rotations)) bs → BabiesJudged rotations bs (Err Baby)
+  babies_refused h e = record { answer = rw (later h, ← e); accepted = λ q. no_refused q }
 
-  pub babies_accepted : r ≡ 0 → false ≡ some (λ z. no_baby z (baby_step_of rotations)) bs → BabiesJudged rotations bs 0
+  pub babies_accepted : r ≡ Ok tt → false ≡ some (λ z. no_baby z (baby_step_of rotations)) bs → BabiesJudged rotations bs (Ok tt)
   babies_accepted h e =
       record {
-        answer = sym (later h ∙ rw (← e));
+        answer = rw (later h, ← e);
         accepted = λ q. record { range = range_of rotations (j.inside h); each = each_false (λ z. no_baby z (baby_step_of rotations)) bs (sym e) };
       }
+
+-- a small number as the code reads it
+pub word_is : (z : ℤ) → Small z → nat_abs (to_z w64 (of_z w64 z)) ≡ nat_abs z
+word_is (pos n) s = let l : mag (pos n) < 2 ^ 63 = omega (arith, ltb-false 65535 n s.high) in ap nat_abs (to_z-of_z w64 (pos n) (sfits_of l))
+word_is (negsuc n) s = absurd (true≢false s.low)

@@ -1,33 +1,31 @@
 -- Lists that are written in front of a buffer: what the loops keep, and the answers of the calls.
 -- Assumes nothing.
-use Prim.Native.Nat.{ℕ, zero, suc, ◌+◌, ◌*◌, ◌^◌, ◌≤◌, ◌<◌}
-use mathlib.Core.Path.{◌≡◌, refl, sym, ap, ◌∙◌}
-use mathlib.Core.Bool.{Bool, true, false, not}
+use Prim.Native.Nat.{ℕ, suc, ◌+◌, ◌*◌, ◌^◌, ◌≤◌, ◌<◌}
+use mathlib.Core.Path.{◌≡◌, refl, sym, ap, ap₂, ◌∙◌}
+use mathlib.Core.Bool.{Bool, true, false, not, cond}
+use Rattle.std.specs.List.{count_by}
+use Rattle.std.proofs.lemmas.List.Sums.{sum_by-cons}
 use mathlib.Core.List.{List, [], ◌∷◌, ◌++◌, map, map-id, append-nil, append_assoc}
-use native.Mathlib.Nat.{suc-ne-zero, add-zero, zero-mul, mul-one, le-mul_of_pos_right}
-use borrow.Author.Rules.{sfits_of}
-use lib.Signed.{mag}
-use mir.Syntax.{w64}
-use mir.Val.{of_z, to_z}
-use mir.ValLaws.{to_z-of_z}
+use native.Mathlib.Nat.{zero-mul, mul-one, le-mul_of_pos_right}
 use native.Mathlib.Decide.{ℕ_discrete}
 use native.Mathlib.Omega.{arith}
 use borrow.Author.Tests.{eq-eqb, ne_eqb, lt-ltb, le-ltb}
 use lib.Dec.{eqb, ltb}
-use lib.IntN.{ℤ, pos, negsuc, nat_abs}
-use lib.ListN.{length, get_or, set, take, drop, length-set, length-append, length-map, take-append-drop, get_or-map}
+use lib.IntN.{ℤ, pos, nat_abs}
+use lib.ListN.{length, get_or, set, take, drop, length-set, length-append, length-map, take-append-drop}
 use lib.Seq.{take_all, split_at, length-take-le}
 use Rattle.ring.specs.Lists.{join, Each, among}
 use Rattle.ring.specs.Vectors.{in_front}
 use Rattle.ring.specs.Searches.{below, only}
 use Rattle.ring.specs.Marks.{marks}
 use Rattle.ring.specs.Refusals.{first_refusal}
-use Rattle.ring.specs.declared.Answer.{Answer}
-use Rattle.ring.specs.declared.Answer.TheVariants.{Refused, Is}
+use Rattle.std.specs.Prelude.{None, Some, Result, Ok, Err}
+use Rattle.ring.specs.declared.refusal.Refusal.{Refusal}
+use Rattle.ring.specs.declared.refusal.Refusal.TheVariants.{Room}
 use Rattle.ring.specs.Laws.Lists.{join_more, join_append}
 use Rattle.ring.specs.Laws.Vectors.{in_front_more}
 use Rattle.ring.specs.Laws.Below.{below_ext}
-use Rattle.ring.specs.Laws.Refusals.{first_refused, first_later}
+use Rattle.ring.specs.Laws.Refusals.{first_later}
 use Rattle.linear_transformation.specs.declared.rotations.BsgsRotations.{BsgsRotations}
 use Rattle.linear_transformation.specs.declared.rotations.BsgsRotations.TheVariants.{PerRotation, PowersOfTwo}
 use Rattle.linear_transformation.specs.Closures.{closure, pass_rotations, nonzeros}
@@ -36,7 +34,7 @@ use Rattle.linear_transformation.specs.Calls.{ListWritten}
 use Rattle.linear_transformation.specs.Steps.Babies.{Babies, BabiesJudged, Marked, Enclosed, Reached, tops_of}
 use Rattle.linear_transformation.specs.Laws.Passes.{rotations_are}
 use Rattle.linear_transformation.specs.Laws.Tables.{bounded_below}
-use Rattle.linear_transformation.proofs.BabyChecks.{baby_numbered}
+use Rattle.linear_transformation.proofs.Judgings.{none_of, some_of, still_refused}
 use Rattle.linear_transformation.proofs.BabyTables.{times, baby_is}
 
 -- ---- words of the elements of a list, one after the other
@@ -46,21 +44,6 @@ module _ (g : ℕ → List ℕ) where
   join_split ks t l =
       let e : length (join g ks) ≡ length (join g (take t ks)) + (length (g (get_or ks t 0)) + length (join g (drop (suc t) ks))) = ap (λ (x : List ℕ). length (join g x)) (split_at ks t 0 l) ∙ rw (join_append g, length-append, length-append) in
       omega arith
-
--- how many words the elements before t have
-pub record Tally (g : ℕ → List ℕ) (ks : List ℕ) (count t : ℕ) : Type 0 where
-  pub inside : t ≤ length ks
-  pub count_is : count ≡ length (join g (take t ks))
-
-pub tally_none : (g : ℕ → List ℕ) (ks : List ℕ) → Tally g ks 0 0
-tally_none g ks = record { inside = omega arith; count_is = refl }
-
-module _ {g : ℕ → List ℕ} {ks : List ℕ} {count t : ℕ} (s : Tally g ks count t) where
-  pub tally_more : t < length ks → (n : ℕ) → length (g (get_or ks t 0)) ≡ n → Tally g ks (count + n) (t + 1)
-  tally_more l n e = record { inside = omega arith; count_is = rw (s.count_is, ← e) (sym (ap length (join_more g ks t 0 l) ∙ length-append (join g (take t ks)) (g (get_or ks t 0)))) }
-
-  pub tally_done : length ks ≤ t → count ≡ length (join g ks)
-  tally_done h = s.count_is ∙ ap (λ (x : List ℕ). length (join g x)) (take_all t ks h)
 
 -- their words stand behind `front`, which the buffer began with
 pub record Sieving (g : ℕ → List ℕ) (front ks out₀ out : List ℕ) (at t : ℕ) : Type 0 where
@@ -126,36 +109,31 @@ nonzero_yes k h = rw (ne_eqb k 0 h)
 pub nonzero_no : (k : ℕ) → k ≡ 0 → nonzero k ≡ []
 nonzero_no k h = rw (eq-eqb k 0 h)
 
-pub abs_zero : (z : ℤ) → nat_abs z ≡ 0 → z ≡ pos 0
-abs_zero (pos n) e = ap pos e
-abs_zero (negsuc n) e = absurd (suc-ne-zero n e)
-
 -- ---- answers
 
 -- what comes before is accepted
-pub list_later_by : (cs : List (Bool × ℕ)) → Each (λ c. c.1 ≡ 0 → ⊥) cs → first_refusal cs ≡ 0 → {result old new : List ℕ} {r : Answer} → ListWritten [] result old new r → ListWritten cs result old new r
-list_later_by cs n z {result} {old} w =
-    let q = first_later cs ((ltb (length old) (length result), 12) ∷ []) n z in
+pub list_later_by : (cs : List (Bool × Refusal)) → first_refusal cs ≡ None → {result old new : List ℕ} {r : Result ℕ Refusal} → ListWritten [] result old new r → ListWritten cs result old new r
+list_later_by cs z {result} {old} w =
+    let q = first_later cs ((ltb (length old) (length result), Room) ∷ []) z in
     record { answer = rw q w.answer; words = rw q w.words }
 
-pub list_later : {rotations : BsgsRotations} {bs : List ℤ} {e : ℕ} {result old new : List ℕ} {r : Answer} → BabiesJudged rotations bs e → e ≡ 0 → ListWritten [] result old new r → ListWritten (baby_refusals rotations bs) result old new r
-list_later {rotations} {bs} j z w = list_later_by (baby_refusals rotations bs) (baby_numbered rotations bs) (sym j.answer ∙ z) w
+pub list_later : {rotations : BsgsRotations} {bs : List ℤ} {e : Result Unit Refusal} {result old new : List ℕ} {r : Result ℕ Refusal} → BabiesJudged rotations bs e → e ≡ Ok tt → ListWritten [] result old new r → ListWritten (baby_refusals rotations bs) result old new r
+list_later {rotations} {bs} j z w = list_later_by (baby_refusals rotations bs) (none_of j.answer z) w
 
-pub list_refused_by : (cs : List (Bool × ℕ)) (result old : List ℕ) (r : ℕ) → r ≡ first_refusal cs → (r ≡ 0 → ⊥) → ListWritten cs result old old (Refused r)
-list_refused_by cs result old zero e n = absurd (n refl)
-list_refused_by cs result old (suc r) e n =
-    let q : first_refusal (cs ++ (ltb (length old) (length result), 12) ∷ []) ≡ suc r = first_refused cs ((ltb (length old) (length result), 12) ∷ []) (λ h. n (e ∙ h)) ∙ sym e in
+pub list_refused_by : (cs : List (Bool × Refusal)) (result old : List ℕ) {x : Refusal} → first_refusal cs ≡ Some x → ListWritten cs result old old (Err x)
+list_refused_by cs result old e =
+    let q = still_refused cs ((ltb (length old) (length result), Room) ∷ []) e in
     record { answer = rw q; words = rw q }
 
-pub list_refused : {rotations : BsgsRotations} {bs : List ℤ} {r : ℕ} (result old : List ℕ) → BabiesJudged rotations bs r → (r ≡ 0 → ⊥) → ListWritten (baby_refusals rotations bs) result old old (Refused r)
-list_refused {rotations} {bs} {r} result old j n = list_refused_by (baby_refusals rotations bs) result old r j.answer n
+pub list_refused : {rotations : BsgsRotations} {bs : List ℤ} {r : Result Unit Refusal} {x : Refusal} (result old : List ℕ) → BabiesJudged rotations bs r → r ≡ Err x → ListWritten (baby_refusals rotations bs) result old old (Err x)
+list_refused {rotations} {bs} result old j n = list_refused_by (baby_refusals rotations bs) result old (some_of j.answer n)
 
-pub list_short : (result old : List ℕ) {count : ℕ} → count ≡ length result → length old < count → ListWritten [] result old old (Refused 12)
+pub list_short : (result old : List ℕ) {count : ℕ} → count ≡ length result → length old < count → ListWritten [] result old old (Err Room)
 list_short result old e l =
     let q : ltb (length old) (length result) ≡ true = lt-ltb (length old) (length result) (omega arith) in
     record { answer = rw q; words = rw q }
 
-pub list_written : (result old : List ℕ) {new : List ℕ} {count : ℕ} → count ≡ length result → count ≤ length old → new ≡ in_front result old → ListWritten [] result old new (Is count)
+pub list_written : (result old : List ℕ) {new : List ℕ} {count : ℕ} → count ≡ length result → count ≤ length old → new ≡ in_front result old → ListWritten [] result old new (Ok count)
 list_written result old e l h =
     let q : ltb (length old) (length result) ≡ false = le-ltb (length old) (length result) (omega arith) in
     record { answer = rw (q, e); words = rw q h }
@@ -174,37 +152,17 @@ reached_powers {baby_step} e = record { bounded = e.bounded; is = ap (map (λ k.
 
 -- ---- the loops over babies
 
--- an i64 whose word is 0 is 0
-word_zero : (z : ℤ) → mag z < 2 ^ 63 → of_z w64 z ≡ 0 → nat_abs z ≡ 0
-word_zero z g e = ap nat_abs (sym (to_z-of_z w64 z (sfits_of g)) ∙ ap (to_z w64) e)
-
-zero_word : (z : ℤ) → nat_abs z ≡ 0 → of_z w64 z ≡ 0
-zero_word z e = rw (abs_zero z e)
-
-nonzeros_low : (ks : List ℕ) → length (join nonzero ks) ≤ length ks
-nonzeros_low [] = omega arith
-nonzeros_low (k ∷ ks) = by (ℕ_discrete k 0) (nonzeros_low ks)
+-- as many as there are numbers that are not 0
+pub nonzeros_counted : (zs : List ℤ) → count_by (λ z. not (eqb (nat_abs z) 0)) zs ≡ length (nonzeros (map nat_abs zs))
+nonzeros_counted [] = refl
+nonzeros_counted (z ∷ zs) =
+    sum_by-cons (λ z. cond (not (eqb (nat_abs z) 0)) 1 0) z zs
+    ∙ ap₂ ◌+◌ (one (not (eqb (nat_abs z) 0))) (nonzeros_counted zs)
+    ∙ sym (length-append (nonzero (nat_abs z)) (nonzeros (map nat_abs zs)))
   where
-    by : Dec (k ≡ 0) → length (join nonzero ks) ≤ length ks → length (nonzero k ++ join nonzero ks) ≤ suc (length ks)
-    by (yes e) h = rw (nonzero_no k e) (omega arith)
-    by (no n) h = rw (nonzero_yes k n) (omega arith)
-
-module _ (list : List ℤ) {count t : ℕ} (s : Tally nonzero (map nat_abs list) count t) where
-  pub tally_low : count ≤ t
-  tally_low = omega (arith, s.count_is, nonzeros_low (take t (map nat_abs list)), length-take-le t (map nat_abs list) s.inside)
-
-  module _ (l : t < length list) where
-    at_t : get_or (map nat_abs list) t 0 ≡ nat_abs (get_or list t (pos 0))
-    at_t = get_or-map nat_abs list t (pos 0)
-
-    pub tally_yes : (of_z w64 (get_or list t (pos 0)) ≡ 0 → ⊥) → Tally nonzero (map nat_abs list) (count + 1) (t + 1)
-    tally_yes n = tally_more s (rw length-map l) 1 (rw at_t (ap length (nonzero_yes (nat_abs (get_or list t (pos 0))) (λ e. n (zero_word (get_or list t (pos 0)) e)))))
-
-    pub tally_no : mag (get_or list t (pos 0)) < 2 ^ 63 → of_z w64 (get_or list t (pos 0)) ≡ 0 → Tally nonzero (map nat_abs list) count (t + 1)
-    tally_no g e = rw (← (add-zero count)) (tally_more s (rw length-map l) 0 (rw at_t (ap length (nonzero_no (nat_abs (get_or list t (pos 0))) (word_zero (get_or list t (pos 0)) g e)))))
-
-  pub tally_all : length list ≤ t → count ≡ length (join nonzero (map nat_abs list))
-  tally_all h = tally_done s (rw length-map h)
+    one : (b : Bool) → cond b 1 0 ≡ length (only b (nat_abs z))
+    one true = refl
+    one false = refl
 
 -- the nonzero babies before t stand in front
 module _ {bs : List ℤ} {out₀ out : List ℕ} {at t a : ℕ} (b : Babies 1 bs) (s : Sieving nonzero [] (multiples_of 1 bs) out₀ out at t) (l : t < length bs) (e : a ≡ nat_abs (get_or bs t (pos 0))) where
@@ -254,14 +212,14 @@ nonzeros_same {step} {bs} b = by bs b.each
 
 -- ---- the answer of `baby_closure`
 
-module _ {rotations : BsgsRotations} {bs : List ℤ} {e : ℕ} (j : BabiesJudged rotations bs e) (z : e ≡ 0) {seen : List Bool} {n : ℕ} (r : Reached rotations bs seen n) {count : ℕ} (k : count ≡ length (below (marks seen) n)) (old : List ℕ) where
+module _ {rotations : BsgsRotations} {bs : List ℤ} {e : Result Unit Refusal} (j : BabiesJudged rotations bs e) (z : e ≡ Ok tt) {seen : List Bool} {n : ℕ} (r : Reached rotations bs seen n) {count : ℕ} (k : count ≡ length (below (marks seen) n)) (old : List ℕ) where
   counted : count ≡ length (closure_of rotations bs)
   counted = k ∙ sym (sym (ap length r.is) ∙ length-map (below (marks seen) n) (λ k. k * baby_step_of rotations))
 
-  pub closure_short : length old < count → ListWritten (baby_refusals rotations bs) (closure_of rotations bs) old old (Refused 12)
+  pub closure_short : length old < count → ListWritten (baby_refusals rotations bs) (closure_of rotations bs) old old (Err Room)
   closure_short h = list_later j z (list_short (closure_of rotations bs) old counted h)
 
-  pub closure_written : {step : ℕ} {new : List ℕ} → count ≤ length old → step ≡ baby_step_of rotations → new ≡ in_front (map (λ k. k * step) (below (marks seen) n)) old → ListWritten (baby_refusals rotations bs) (closure_of rotations bs) old new (Is count)
+  pub closure_written : {step : ℕ} {new : List ℕ} → count ≤ length old → step ≡ baby_step_of rotations → new ≡ in_front (map (λ k. k * step) (below (marks seen) n)) old → ListWritten (baby_refusals rotations bs) (closure_of rotations bs) old new (Ok count)
   closure_written {new} h s w =
       let q : new ≡ in_front (map (λ k. k * baby_step_of rotations) (below (marks seen) n)) old = rw (← s) w in
       list_later j z (list_written (closure_of rotations bs) old counted h (q ∙ ap (λ (x : List ℕ). in_front x old) r.is))
@@ -278,10 +236,10 @@ module _ {step : ℕ} {bs : List ℤ} {seen : List Bool} {n : ℕ} (r : Enclosed
   tops_counted : count ≡ length rotated
   tops_counted = k ∙ sym (sym (ap length turned) ∙ ap length (rotations_are step (below (marks seen) n) 16) ∙ length-map (tops_of (below (marks seen) n) 16) (λ i. 2 ^ i * step))
 
-  pub tops_short : length old < count → ListWritten [] rotated old old (Refused 12)
+  pub tops_short : length old < count → ListWritten [] rotated old old (Err Room)
   tops_short h = list_short rotated old tops_counted h
 
-  pub tops_written : {new : List ℕ} → count ≤ length old → new ≡ in_front (pass_rotations 16 step (below (marks seen) n)) old → ListWritten [] rotated old new (Is count)
+  pub tops_written : {new : List ℕ} → count ≤ length old → new ≡ in_front (pass_rotations 16 step (below (marks seen) n)) old → ListWritten [] rotated old new (Ok count)
   tops_written h w = list_written rotated old tops_counted h (w ∙ ap (λ (x : List ℕ). in_front x old) turned)
 
 -- ---- the keys per rotation
@@ -293,8 +251,8 @@ module _ {bs : List ℤ} (b : Babies 1 bs) {count : ℕ} (k : count ≡ length (
   pub keys_asked : count ≤ length old → length (nonzeros (multiples_of 1 bs)) ≤ length old
   keys_asked h = omega (arith, keys_counted)
 
-  pub keys_short : length old < count → ListWritten [] (nonzeros (multiples_of 1 bs)) old old (Refused 12)
+  pub keys_short : length old < count → ListWritten [] (nonzeros (multiples_of 1 bs)) old old (Err Room)
   keys_short h = list_short (nonzeros (multiples_of 1 bs)) old keys_counted h
 
-  pub keys_written : {new : List ℕ} → count ≤ length old → new ≡ in_front (nonzeros (multiples_of 1 bs)) old → ListWritten [] (nonzeros (multiples_of 1 bs)) old new (Is count)
+  pub keys_written : {new : List ℕ} → count ≤ length old → new ≡ in_front (nonzeros (multiples_of 1 bs)) old → ListWritten [] (nonzeros (multiples_of 1 bs)) old new (Ok count)
   keys_written h w = list_written (nonzeros (multiples_of 1 bs)) old keys_counted h w

@@ -1,6 +1,6 @@
 -- The tables of the babies' multiples: what each loop keeps, a turn, and the end.
 -- Assumes nothing.
-use Prim.Native.Nat.{ℕ, zero, suc, ◌+◌, ◌-◌, ◌*◌, ◌/◌, ◌%◌, ◌^◌, ◌≤◌, ◌<◌, min}
+use Prim.Native.Nat.{ℕ, suc, ◌+◌, ◌-◌, ◌*◌, ◌/◌, ◌%◌, ◌^◌, ◌≤◌, ◌<◌, min, max}
 use mathlib.Core.Path.{◌≡◌, refl, sym, ap, ◌∙◌}
 use mathlib.Core.Bool.{Bool, true, false, not, ◌||◌, true≢false, or-true, or-false}
 use mathlib.Core.Logic.{◌⊎◌, inl, inr, ⊎_elim}
@@ -14,9 +14,11 @@ use borrow.Author.Tests.{eq-eqb, ne_eqb, eqb-true, ltb-false, not-false}
 use lib.Dec.{eqb}
 use lib.IntN.{ℤ, pos, negsuc, nat_abs}
 use lib.Signed.{lt_z}
+use mir.Syntax.{w64}
+use mir.Val.{of_z, to_z}
+use Rattle.std.specs.Ordering.{ord_max, nat_cmp}
 use lib.ListN.{length, get_or, set, take, length-set, length-map, get_or-map}
 use lib.Seq.{get_or-set_same, get_or-set_other, take-suc, take_all}
-use Rattle.ring.proofs.Counting.{Counting, counting_none, counting_low, counting_yes, counting_no, counting_done}
 use Rattle.ring.specs.Lists.{Each, among}
 use Rattle.ring.specs.Vectors.{in_front}
 use Rattle.ring.specs.Searches.{below}
@@ -32,7 +34,9 @@ use Rattle.linear_transformation.specs.Closures.{top_bit, cleared, targets, pass
 use Rattle.linear_transformation.specs.Listed.{no_baby, baby_multiple, multiples_of}
 use Rattle.linear_transformation.specs.Steps.Plans.{Writing}
 use Rattle.linear_transformation.proofs.Writings.{writing_front}
-use Rattle.linear_transformation.specs.Steps.Babies.{Babies, Small, Bounded, Folded, Clears, Closes, Above, Marked, Enclosed, HasTop, tops_of}
+use Rattle.linear_transformation.proofs.BabyChecks.{word_is}
+use Rattle.linear_transformation.proofs.Signs.{max_is}
+use Rattle.linear_transformation.specs.Steps.Babies.{Babies, Small, Bounded, Folded, Clears, Closes, Marked, Enclosed, tops_of}
 use Rattle.ring.specs.Laws.Members.{some_append, among_head, among_below, below_among}
 use Rattle.linear_transformation.specs.Laws.Closures.{top_unique, top_low, top_high, positive}
 use Rattle.linear_transformation.specs.Laws.Passes.{target_is, is_target, rotations_are}
@@ -73,6 +77,10 @@ module _ {step : ℕ} {bs : List ℤ} (b : Babies step bs) where
     pub small_at : Small (get_or bs t (pos 0))
     small_at = small_of (get_or bs t (pos 0)) step here
 
+    -- as the code reads it
+    pub word_at : nat_abs (to_z w64 (of_z w64 (get_or bs t (pos 0)))) ≡ nat_abs (get_or bs t (pos 0))
+    word_at = word_is (get_or bs t (pos 0)) small_at
+
     pub baby_low : nat_abs (get_or bs t (pos 0)) ≤ 65535
     baby_low = abs_low (get_or bs t (pos 0)) small_at
 
@@ -91,9 +99,6 @@ module _ {step : ℕ} {bs : List ℤ} (b : Babies step bs) where
 
 pub baby_word : {step : ℕ} {bs : List ℤ} {t a : ℕ} → Babies step bs → t < length bs → a ≡ nat_abs (get_or bs t (pos 0)) → a < 2 ^ 32
 baby_word {t} b l e = omega (arith, e, baby_low b t l)
-
-pub mark_low : {step : ℕ} {bs : List ℤ} {t a : ℕ} → Babies step bs → t < length bs → a ≡ nat_abs (get_or bs t (pos 0)) → a / step < 65536
-mark_low {step} {t} {a} b l e = let d = baby_low b t l in omega (arith, e, div-le_self a step)
 
 -- ---- marks
 
@@ -132,10 +137,10 @@ pub marking_none : (step : ℕ) (bs : List ℤ) {seen : List Bool} → Unmarked 
 marking_none step bs u =
     record { bounded = record { size = u.size; room = omega arith; above = λ k l. u.none k }; inside = omega arith; so_far = u.none }
 
-pub marking_more : {step : ℕ} {bs : List ℤ} {seen : List Bool} {n t a r : ℕ} → Marking step bs seen n t → Babies step bs → t < length bs → a ≡ nat_abs (get_or bs t (pos 0)) → Above n (a / step) r → Marking step bs (set seen (a / step) true) r (t + 1)
+pub marking_more : {step : ℕ} {bs : List ℤ} {seen : List Bool} {n t a r : ℕ} → Marking step bs seen n t → Babies step bs → t < length bs → a ≡ nat_abs (get_or bs t (pos 0)) → r ≡ ord_max nat_cmp n (a / step + 1) → Marking step bs (set seen (a / step) true) r (t + 1)
 marking_more {step} {bs} {seen} {n} {t} {a} {r} s b l e v =
     record {
-      bounded = record { size = simp length-set s.bounded.size; room = v.low s.bounded.room; above = out };
+      bounded = record { size = simp length-set s.bounded.size; room = omega (arith, bound, fits, s.bounded.room, s.bounded.size); above = out };
       inside = omega arith;
       so_far = λ k.
           set_marks seen (a / step) fits k
@@ -143,6 +148,9 @@ marking_more {step} {bs} {seen} {n} {t} {a} {r} s b l e v =
           (sym (some_append (λ x. eqb x k) (take t (multiples_of step bs)) (get_or (multiples_of step bs) t 0 ∷ [])));
     }
   where
+    bound : r ≡ max n (a / step + 1)
+    bound = v ∙ max_is n (a / step + 1)
+
     own : a / step ≡ get_or (multiples_of step bs) t 0
     own = ap (λ (x : ℕ). x / step) e ∙ sym (multiple_at b t l)
 
@@ -153,7 +161,7 @@ marking_more {step} {bs} {seen} {n} {t} {a} {r} s b l e v =
     within = rw length-map l
 
     out : (k : ℕ) → r ≤ k → marks (set seen (a / step) true) k ≡ false
-    out k h = by_false (λ y. ⊎_elim (λ m. absurd (true≢false (sym m ∙ s.bounded.above k (omega (arith, v.old))))) (λ q. omega (arith, v.new)) (set_only seen (a / step) fits k y))
+    out k h = by_false (λ y. ⊎_elim (λ m. absurd (true≢false (sym m ∙ s.bounded.above k (omega (arith, bound))))) (λ q. omega (arith, bound)) (set_only seen (a / step) fits k y))
 
 pub marking_done : {step : ℕ} {bs : List ℤ} {seen : List Bool} {n t : ℕ} → Marking step bs seen n t → length bs ≤ t → Marked step bs seen n
 marking_done {step} {bs} {t} s h = record { bounded = s.bounded; marked = λ k. s.so_far k ∙ ap (among k) (take_all t (multiples_of step bs) (rw length-map h)) }
@@ -232,76 +240,69 @@ folding_done {p} {n} {end} {k} s b e h =
 -- ---- all powers
 
 -- the powers from p on are folded
-pub record Closing (n : ℕ) (old new : List Bool) (p : ℕ) : Type 0 where
+pub record Closing (n : ℕ) (old new : List Bool) (j : ℕ) : Type 0 where
   pub bounded : Bounded new n
-  pub bit : ℕ
-  pub power : p ≡ 2 ^ bit
-  pub low : p ≤ 65536
+  pub low : j ≤ 16
   pub grows : (k : ℕ) → marks old k ≡ true → marks new k ≡ true
-  pub clears : (k : ℕ) → p ≤ k → marks new k ≡ true → 1 ≤ cleared k → marks new (cleared k) ≡ true
+  pub clears : (k : ℕ) → 2 ^ j ≤ k → marks new k ≡ true → 1 ≤ cleared k → marks new (cleared k) ≡ true
   pub least : (q : ℕ → Bool) → Clears q → ((k : ℕ) → marks old k ≡ true → q k ≡ true) → (k : ℕ) → marks new k ≡ true → q k ≡ true
 
-pub closing_none : {n : ℕ} {seen : List Bool} → Bounded seen n → Closing n seen seen 65536
+pub closing_none : {n : ℕ} {seen : List Bool} → Bounded seen n → Closing n seen seen 16
 closing_none b =
     record {
       bounded = b;
-      bit = 16;
-      power = refl;
       low = omega arith;
       grows = λ k h. h;
       clears = λ k l h. absurd (true≢false (sym h ∙ b.above k (omega (arith, b.room))));
       least = λ q c i k h. i k h;
     }
 
--- a power above 1 is twice the one before
-halves : (p i : ℕ) → p ≡ 2 ^ i → 1 < p → (j : ℕ) × ((p / 2 ≡ 2 ^ j) × (p ≡ 2 * 2 ^ j))
-halves p zero e l = absurd (omega arith)
-halves p (suc j) e l = (j, (omega arith, omega arith))
-
 -- clearing the top bit of a number of at least 2^j and below 2^(j+1) takes 2^j away
 clears_at : (k j p : ℕ) → p ≡ 2 ^ j → p ≤ k → k < 2 * p → cleared k ≡ k - p
 unfolding cleared
 clears_at k j p e l h = let t : top_bit k ≡ j = top_unique k j (omega arith) (omega arith) in rw (t, e)
 
-module _ {n : ℕ} {old mid : List Bool} {p : ℕ} (s : Closing n old mid p) (l : 1 < p) where
-  pub half_low : p / 2 ≤ 32768
-  half_low = omega (arith, s.low)
+module _ {n : ℕ} {old mid : List Bool} {j : ℕ} (s : Closing n old mid j) (l : 0 < j) where
+  -- the power before
+  abbrev half : ℕ
+  half = 2 ^ (j - 1)
 
-  pub closing_more : {new : List Bool} → Folded (p / 2) n mid new → Closing n old new (p / 2)
-  closing_more {new} f =
+  twice : 2 ^ j ≡ 2 * half
+  twice = let e : j ≡ suc (j - 1) = omega arith in ap (λ (x : ℕ). 2 ^ x) e ∙ omega arith
+
+  pub half_low : {p : ℕ} → p ≡ half → p ≤ 32768
+  half_low q = omega (arith, q, pow_mono {i = j - 1} {j = 15} (omega (arith, s.low)))
+
+  pub closing_more : {p : ℕ} {new : List Bool} → p ≡ half → Folded p n mid new → Closing n old new (j - 1)
+  closing_more {p} {new} q g =
       record {
         bounded = f.bounded;
-        bit = h.0;
-        power = h.1.0;
-        low = omega (arith, half_low);
+        low = omega (arith, s.low);
         grows = λ k a. f.grows k (s.grows k a);
-        clears = λ k a m q. clear k a q (f.origin k m) (lt_or_ge k p);
+        clears = λ k a m q. clear k a q (f.origin k m) (lt_or_ge k (2 ^ j));
         least = λ q c i k m. ⊎_elim (λ a. s.least q c i k a) (λ a. into q c i k a.0 a.1.0 a.1.1) (f.origin k m);
       }
     where
-      h : (j : ℕ) × ((p / 2 ≡ 2 ^ j) × (p ≡ 2 * 2 ^ j))
-      h = halves p s.bit s.power l
+      f : Folded half n mid new
+      f = rw q at g
 
-      twice : p ≡ 2 * (p / 2)
-      twice = omega (arith, h.1.0, h.1.1)
-
-      clear : (k : ℕ) → p / 2 ≤ k → 1 ≤ cleared k → (marks mid k ≡ true) ⊎ ((1 ≤ k) × ((k < p / 2) × (marks mid (k + p / 2) ≡ true))) → (k < p) ⊎ (p ≤ k) → marks new (cleared k) ≡ true
+      clear : (k : ℕ) → half ≤ k → 1 ≤ cleared k → (marks mid k ≡ true) ⊎ ((1 ≤ k) × ((k < half) × (marks mid (k + half) ≡ true))) → (k < 2 ^ j) ⊎ (2 ^ j ≤ k) → marks new (cleared k) ≡ true
       clear k a q (inr b) d = absurd (omega (arith, b.1.0))
       clear k a q (inl b) (inl d) =
-          let e : cleared k ≡ k - p / 2 = clears_at k h.0 (p / 2) h.1.0 a (omega (arith, twice)) in
+          let e : cleared k ≡ k - half = clears_at k (j - 1) half refl a (omega (arith, twice)) in
           rw e (f.moved k (omega (arith, e)) (omega (arith, twice)) b)
       clear k a q (inl b) (inr d) = f.grows (cleared k) (s.clears k d b q)
 
-      into : (q : ℕ → Bool) → Clears q → ((k : ℕ) → marks old k ≡ true → q k ≡ true) → (k : ℕ) → 1 ≤ k → k < p / 2 → marks mid (k + p / 2) ≡ true → q k ≡ true
+      into : (q : ℕ → Bool) → Clears q → ((k : ℕ) → marks old k ≡ true → q k ≡ true) → (k : ℕ) → 1 ≤ k → k < half → marks mid (k + half) ≡ true → q k ≡ true
       into q c i k a b m =
-          let e : cleared (k + p / 2) ≡ k = clears_at (k + p / 2) h.0 (p / 2) h.1.0 (omega arith) (omega arith) ∙ back k (p / 2) in
-          rw (← e) (c (k + p / 2) (s.least q c i (k + p / 2) m) (rw e a))
+          let e : cleared (k + half) ≡ k = clears_at (k + half) (j - 1) half refl (omega arith) (omega arith) ∙ back k half in
+          rw (← e) (c (k + half) (s.least q c i (k + half) m) (rw e a))
         where
           back : (k x : ℕ) → k + x - x ≡ k
           back k x = omega arith
 
-pub closing_done : {n : ℕ} {old new : List Bool} {p : ℕ} → Closing n old new p → p ≤ 1 → Closes n old new
-closing_done s h = record { bounded = s.bounded; grows = s.grows; clears = λ k m q. s.clears k (omega (arith, positive k q)) m q; least = s.least }
+pub closing_done : {n : ℕ} {old new : List Bool} {j : ℕ} → Closing n old new j → j ≤ 0 → Closes n old new
+closing_done {j = j} s l = record { bounded = s.bounded; grows = s.grows; clears = λ k m q. let e : j ≡ 0 = omega arith in s.clears k (rw e (positive k q)) m q; least = s.least }
 
 -- a rotation k·step is a word
 pub word : {k step : ℕ} → k < 65536 → Range step → k * step < 2 ^ 32
@@ -373,100 +374,54 @@ module _ {seen : List Bool} {p k : ℕ} (s : Looking seen p k) where
       by j a b (yes q) = rw q e
       by j a b (no d) = s.so_far j a (omega arith)
 
-  pub looking_found : (n : ℕ) {end : ℕ} → end ≡ min (2 * p) n → k < end → marks seen k ≡ true → HasTop (below (marks seen) n) p true
-  looking_found n {end} e l h =
-      record {
-        is = λ i q.
-            let t : top_bit k ≡ i = top_unique k i (omega (arith, s.behind)) (omega (arith, min-le_left (2 * p) n)) in
-            sym (non_empty_yes k (targets (below (marks seen) n) i)
-            (is_target (below (marks seen) n) i k
-            (record {
-              among_cached = among_below k (marks seen) n (omega (arith, min-le_right (2 * p) n)) h;
-              nonzero = omega (arith, s.behind, pow_pos i);
-              topped = t;
-            })));
-      }
+  module _ (n i end : ℕ) (e : end ≡ min (2 * p) n) (q : p ≡ 2 ^ i) where
+    pub looking_found : k < end → marks seen k ≡ true → true ≡ non_empty (targets (below (marks seen) n) i)
+    looking_found l h =
+        let t : top_bit k ≡ i = top_unique k i (omega (arith, s.behind)) (omega (arith, min-le_left (2 * p) n)) in
+        sym (non_empty_yes k (targets (below (marks seen) n) i)
+        (is_target (below (marks seen) n) i k
+        (record {
+          among_cached = among_below k (marks seen) n (omega (arith, min-le_right (2 * p) n)) h;
+          nonzero = omega (arith, s.behind, pow_pos i);
+          topped = t;
+        })))
 
-  pub looking_done : (n : ℕ) {end : ℕ} → end ≡ min (2 * p) n → end ≤ k → HasTop (below (marks seen) n) p false
-  looking_done n {end} e l =
-      record {
-        is = λ i q.
-            sym (non_empty_no (targets (below (marks seen) n) i)
-            (λ j a.
-            let t = target_is (below (marks seen) n) i j a in
-            let b = below_among j (marks seen) n t.among_cached in
-            let x : top_bit j ≡ i = t.topped in
-            let y : 2 ^ i ≤ j = rw (← x) (top_low j t.nonzero) in
-            let z : j < 2 ^ suc i = rw (← x) (top_high j t.nonzero) in
-            true≢false (sym b.1 ∙ s.so_far j (omega arith) (omega (arith, le-min {k = suc j} {a = 2 * p} {b = n} (omega arith) b.0)))));
-      }
+    pub looking_done : end ≤ k → false ≡ non_empty (targets (below (marks seen) n) i)
+    looking_done l =
+        sym (non_empty_no (targets (below (marks seen) n) i)
+        (λ j a.
+        let t = target_is (below (marks seen) n) i j a in
+        let b = below_among j (marks seen) n t.among_cached in
+        let x : top_bit j ≡ i = t.topped in
+        let y : 2 ^ i ≤ j = rw (← x) (top_low j t.nonzero) in
+        let z : j < 2 ^ suc i = rw (← x) (top_high j t.nonzero) in
+        true≢false (sym b.1 ∙ s.so_far j (omega arith) (omega (arith, le-min {k = suc j} {a = 2 * p} {b = n} (omega arith) b.0)))))
 
 -- ---- the powers of two, one after the other
 
--- p is the i-th of 16 powers
-pub record Power (p i : ℕ) : Type 0 where
-  pub is : p ≡ 2 ^ i
-  pub inside : i ≤ 16
+pub power_low : {p i : ℕ} → p ≡ 2 ^ i → i < 16 → p ≤ 32768
+power_low {p} {i} q l = omega (arith, q, pow_mono {i = i} {j = 15} (omega arith))
 
-pub power_first : Power 1 0
-power_first = record { is = refl; inside = omega arith }
-
-module _ {p i : ℕ} (s : Power p i) (l : i < 16) where
-  pub power_low : p ≤ 32768
-  power_low = omega (arith, s.is, pow_mono {i = i} {j = 15} (omega arith))
-
-  pub power_more : Power (2 * p) (i + 1)
-  power_more = record { is = rw (s.is, add-one) (twice i); inside = omega arith }
-    where
-      twice : (i : ℕ) → 2 * 2 ^ i ≡ 2 ^ suc i
-      twice i = omega arith
-
--- the top bits below i, counted and listed
-pub record Tops (cs : List ℕ) (count p i : ℕ) : Type 0 where
-  pub power : Power p i
-  pub counting : Counting (λ i. non_empty (targets cs i)) 16 count i
-
-pub tops_none : (cs : List ℕ) → Tops cs 0 1 0
-tops_none cs = record { power = power_first; counting = counting_none _ 16 }
-
-module _ {cs : List ℕ} {count p i : ℕ} (s : Tops cs count p i) where
-  pub tops_low : count ≤ 16
-  tops_low = omega (arith, counting_low s.counting, s.counting.room)
-
-  module _ {r : Bool} (l : i < 16) (h : HasTop cs p r) where
-    pub tops_yes : r ≡ true → Tops cs (count + 1) (2 * p) (i + 1)
-    tops_yes e = record { power = power_more s.power l; counting = counting_yes s.counting l (sym (h.is i s.power.is) ∙ e) }
-
-    pub tops_no : r ≡ false → Tops cs count (2 * p) (i + 1)
-    tops_no e = record { power = power_more s.power l; counting = counting_no s.counting l (sym (h.is i s.power.is) ∙ e) }
-
-  pub tops_done : 16 ≤ i → count ≡ length (tops_of cs 16)
-  tops_done h = counting_done s.counting h
-
-pub record Turns (cs : List ℕ) (step : ℕ) (out₀ out : List ℕ) (at p i : ℕ) : Type 0 where
-  pub power : Power p i
+-- the rotations of the passes below i stand in front
+pub record Turns (cs : List ℕ) (step : ℕ) (out₀ out : List ℕ) (at i : ℕ) : Type 0 where
   pub listing : Listing (λ i. non_empty (targets cs i)) (λ i. 2 ^ i * step) 16 out₀ out at i
 
-pub turns_none : (cs : List ℕ) (step : ℕ) (out : List ℕ) → Turns cs step out out 0 1 0
-turns_none cs step out = record { power = power_first; listing = listing_none _ _ 16 out }
+pub turns_none : (cs : List ℕ) (step : ℕ) (out : List ℕ) → Turns cs step out out 0 0
+turns_none cs step out = record { listing = listing_none _ _ 16 out }
 
-module _ {cs : List ℕ} {step : ℕ} {out₀ out : List ℕ} {at p i : ℕ} (s : Turns cs step out₀ out at p i) where
+module _ {cs : List ℕ} {step : ℕ} {out₀ out : List ℕ} {at i : ℕ} (s : Turns cs step out₀ out at i) where
   pub turns_low : at ≤ 16
   turns_low = omega (arith, listing_low s.listing, s.listing.room)
 
-  module _ {r : Bool} (l : i < 16) (h : HasTop cs p r) where
+  module _ {r : Bool} (l : i < 16) (h : r ≡ non_empty (targets cs i)) where
     pub turns_room : length (tops_of cs 16) ≤ length out₀ → r ≡ true → at < length out
-    turns_room m e = listing_room s.listing l m (sym (h.is i s.power.is) ∙ e)
+    turns_room m e = listing_room s.listing l m (sym h ∙ e)
 
-    pub turns_yes : length (tops_of cs 16) ≤ length out₀ → r ≡ true → Turns cs step out₀ (set out at (p * step)) (at + 1) (2 * p) (i + 1)
-    turns_yes m e =
-        record {
-          power = power_more s.power l;
-          listing = listing_yes s.listing l m (ap (λ (x : ℕ). x * step) s.power.is) (sym (h.is i s.power.is) ∙ e);
-        }
+    pub turns_yes : {p : ℕ} → p ≡ 2 ^ i → length (tops_of cs 16) ≤ length out₀ → r ≡ true → Turns cs step out₀ (set out at (p * step)) (at + 1) (i + 1)
+    turns_yes q m e = record { listing = listing_yes s.listing l m (ap (λ (x : ℕ). x * step) q) (sym h ∙ e) }
 
-    pub turns_no : r ≡ false → Turns cs step out₀ out at (2 * p) (i + 1)
-    turns_no e = record { power = power_more s.power l; listing = listing_no s.listing l (sym (h.is i s.power.is) ∙ e) }
+    pub turns_no : r ≡ false → Turns cs step out₀ out at (i + 1)
+    turns_no e = record { listing = listing_no s.listing l (sym h ∙ e) }
 
   pub turns_done : 16 ≤ i → out ≡ in_front (pass_rotations 16 step cs) out₀
   turns_done h = rw (rotations_are step cs 16) (listing_done s.listing h)

@@ -4,7 +4,7 @@ use Prim.Native.Nat.{ℕ, ◌+◌, ◌*◌, ◌^◌, ◌≤◌, ◌<◌}
 use mathlib.Core.Path.{◌≡◌, refl, sym, ap, ap₂, ◌∙◌}
 use mathlib.Core.Bool.{Bool, true, false}
 use mathlib.Core.List.{List, [], ◌∷◌, ◌++◌, map}
-use native.Mathlib.Nat.{le_refl, suc-ne-zero, mod-eq_of_lt}
+use native.Mathlib.Nat.{le_refl, mod-eq_of_lt}
 use native.Mathlib.Omega.{arith}
 use lib.IntN.{ℤ, pos}
 use lib.ListN.{length, set, take, drop, length-map, length-append}
@@ -16,14 +16,15 @@ use Rattle.ring.specs.Searches.{below}
 use Rattle.ring.specs.Marks.{marks}
 use Rattle.ring.specs.Refusals.{first_refusal, outside, Range}
 use Rattle.ring.specs.Answers.{answered}
-use Rattle.ring.specs.declared.Answer.{Answer}
-use Rattle.ring.specs.declared.Answer.TheVariants.{Refused, Is}
-use Rattle.ring.specs.Laws.Answers.{answered_refused, answered_accepted}
+use Rattle.std.specs.Prelude.{Result, Ok, Err}
+use Rattle.ring.specs.declared.refusal.Refusal.{Refusal}
+use Rattle.ring.specs.declared.refusal.Refusal.TheVariants.{Slots, OutOfRange, Room}
+use Rattle.ring.specs.Laws.Answers.{no_refused}
 use Rattle.ring.specs.Laws.Below.{below_le}
 use Rattle.ring.specs.Laws.Vectors.{length_tabulate, in_front_in_front}
 use Rattle.ring.specs.Laws.Residues.{residue_pos}
 use Rattle.linear_transformation.specs.declared.LinearTransformationStrategy.{LinearTransformationStrategy}
-use Rattle.linear_transformation.specs.declared.LinearTransformationStrategy.TheVariants.{Bsgs, BsgsPowersOfTwo, Direct}
+use Rattle.linear_transformation.specs.declared.LinearTransformationStrategy.TheVariants.{BsgsPowersOfTwo}
 use Rattle.linear_transformation.specs.declared.digits.Rot.{Rot}
 use Rattle.linear_transformation.specs.Strategies.{width_outside}
 use Rattle.linear_transformation.specs.Plans.{width_of, babies, giants}
@@ -32,10 +33,10 @@ use Rattle.linear_transformation.specs.Closures.{closure, targets, pass_rotation
 use Rattle.linear_transformation.specs.Digits.{rot_of}
 use Rattle.linear_transformation.specs.Trees.{tree_of, tree_keys, tree_switches}
 use Rattle.linear_transformation.specs.Listed.{list_tree}
-use Rattle.linear_transformation.specs.Schedules.{baby_step, baby_multiples, plan_babies, plan_tree, keys_per_rotation, plan_keys, giant_switches, plan_switches}
+use Rattle.linear_transformation.specs.Schedules.{baby_step, baby_multiples, plan_babies, plan_tree, keys_per_rotation, plan_keys, giant_switches}
 use Rattle.linear_transformation.specs.Calls.{ListWritten, plan_refusals}
 use Rattle.linear_transformation.specs.Steps.Babies.{tops_of}
-use Rattle.linear_transformation.specs.Steps.Plans.{Sorted, Writing}
+use Rattle.linear_transformation.specs.Steps.Plans.{Writing}
 use Rattle.linear_transformation.specs.Steps.Trees.{Planted, heap_level, heap_levels, heap_switches, keys_of}
 use Rattle.linear_transformation.specs.Steps.Keys.{PlanJudged, Sizable, Accepted, BabyTable, ClosureTable, giants_of, Switches, BabySwitches}
 use Rattle.linear_transformation.specs.Laws.Plans.{planned, width_positive, giants_below}
@@ -43,48 +44,42 @@ use Rattle.linear_transformation.specs.Laws.Runs.{giants_bound, giants_few}
 use Rattle.linear_transformation.specs.Laws.Passes.{rotations_are}
 use Rattle.linear_transformation.specs.Laws.Stored.{nonzeros_few, keyed_few}
 use Rattle.linear_transformation.specs.Laws.Turns.{nonzeros_below, nonzeros_times}
+use Rattle.linear_transformation.proofs.Judgings.{none_of, some_of}
 use Rattle.linear_transformation.proofs.Writings.{writing_then, writing_done}
 use Rattle.linear_transformation.proofs.BabyLists.{list_later_by, list_refused_by, list_short, list_written}
 use Rattle.linear_transformation.proofs.Heaps.{switches_low}
 use Rattle.linear_transformation.proofs.Growth.{tree_switches_lem, tree_keys_lem}
-use Rattle.linear_transformation.proofs.PlanAnswers.{in_range_lem, diagonals_part}
+use Rattle.linear_transformation.proofs.Strategies.{Own}
+use Rattle.linear_transformation.proofs.PlanAnswers.{in_range_lem}
 
 -- ---- refusals
 
 module _ {slots : ℕ} {s : LinearTransformationStrategy} where
-  pub slots_out : outside slots ≡ true → PlanJudged slots s 1
-  slots_out e = record { answer = rw e; accepted = λ h. absurd (suc-ne-zero 0 h) }
+  pub slots_out : outside slots ≡ true → PlanJudged slots s (Err Slots)
+  slots_out e = record { answer = rw e; accepted = λ h. no_refused h }
 
-  pub width_out : outside slots ≡ false → width_outside s ≡ true → PlanJudged slots s 3
-  width_out e f = record { answer = rw (e, f); accepted = λ h. absurd (suc-ne-zero 2 h) }
+  pub width_out : outside slots ≡ false → width_outside s ≡ true → PlanJudged slots s (Err OutOfRange)
+  width_out e f = record { answer = rw (e, f); accepted = λ h. no_refused h }
 
-  pub both_in : outside slots ≡ false → width_outside s ≡ false → PlanJudged slots s 0
+  pub both_in : outside slots ≡ false → width_outside s ≡ false → PlanJudged slots s (Ok tt)
   both_in e f = record { answer = rw (e, f); accepted = λ h. (in_range_lem e, f) }
 
-  module _ {r : ℕ} (j : PlanJudged slots s r) where
-    pub plan_refused : (result old : List ℕ) → (r ≡ 0 → ⊥) → ListWritten (plan_refusals slots s) result old old (Refused r)
-    plan_refused result old n = list_refused_by (plan_refusals slots s) result old r j.answer n
+  module _ {r : Result Unit Refusal} (j : PlanJudged slots s r) where
+    pub plan_refused : (result old : List ℕ) {x : Refusal} → r ≡ Err x → ListWritten (plan_refusals slots s) result old old (Err x)
+    plan_refused result old n = list_refused_by (plan_refusals slots s) result old (some_of j.answer n)
 
-    pub plan_later : r ≡ 0 → {result old new : List ℕ} {a : Answer} → ListWritten [] result old new a → ListWritten (plan_refusals slots s) result old new a
-    plan_later e w = list_later_by (plan_refusals slots s) (suc-ne-zero 0, (suc-ne-zero 2, tt)) (sym j.answer ∙ e) w
+    pub plan_later : r ≡ Ok tt → (f : List ℕ → List ℕ) (zs : List ℤ) {ds old new : List ℕ} {a : Result ℕ Refusal} → ds ≡ diagonals_of slots zs → ListWritten [] (f ds) old new a → ListWritten (plan_refusals slots s) (f (diagonals_of slots zs)) old new a
+    plan_later e f zs q w = rw (← q) (list_later_by (plan_refusals slots s) (none_of j.answer e) w)
 
-    pub count_refused : (v : ℕ) → (r ≡ 0 → ⊥) → Refused r ≡ answered (first_refusal (plan_refusals slots s)) v
-    count_refused v n = rw (← j.answer) (answered_refused r v n)
+    pub count_refused : {x : Refusal} (v : ℕ) → r ≡ Err x → Err x ≡ answered (first_refusal (plan_refusals slots s)) v
+    count_refused v n = rw (some_of j.answer n)
 
-    pub count_later : {v w : ℕ} → r ≡ 0 → v ≡ w → Is v ≡ answered (first_refusal (plan_refusals slots s)) w
-    count_later {v} {w} e q = rw (← j.answer, q) (answered_accepted r w e)
+    pub count_later : {v w : ℕ} → r ≡ Ok tt → v ≡ w → Ok v ≡ answered (first_refusal (plan_refusals slots s)) w
+    count_later e q = rw (none_of j.answer e, q)
 
--- the diagonals stand in front of a list
-module _ {slots : ℕ} {zs : List ℤ} {old new : List ℕ} {r : ℕ} (q : Sorted slots zs old new r) where
-  pub part_accepted : {s : LinearTransformationStrategy} → Range slots → width_outside s ≡ false → Accepted slots s (take r new)
-  part_accepted {s} a w = record { slots_in_fact = a; width_in = w; planned = rw (diagonals_part q) (planned slots (width_of s) zs (width_positive s w)) }
-
-  pub part_switches : {s : LinearTransformationStrategy} {b g : ℕ} → BabySwitches slots s (take r new) b → Switches slots s (take r new) g → b + g ≡ plan_switches slots s (diagonals_of slots zs)
-  unfolding plan_switches
-  part_switches x y = rw (← diagonals_part q, x.are, y.are)
-
-  pub part_list : (f : List ℕ → List ℕ) {out out' : List ℕ} {a : Answer} → ListWritten [] (f (take r new)) out out' a → ListWritten [] (f (diagonals_of slots zs)) out out' a
-  part_list f w = rw (← diagonals_part q) w
+-- the diagonals that indexes name
+pub named_accepted : {slots : ℕ} {s : LinearTransformationStrategy} (zs : List ℤ) → Range slots × (width_outside s ≡ false) → (ds : List ℕ) → ds ≡ diagonals_of slots zs → Accepted slots s ds
+named_accepted {slots} {s} zs a ds e = rw e (record { slots_in_fact = a.0; width_in = a.1; planned = planned slots (width_of s) zs (width_positive s a.1) })
 
 -- ---- babies
 
@@ -93,10 +88,10 @@ module _ {bs : List ℕ} {seen : List Bool} {n step : ℕ} (t : BabyTable bs see
   table_length = sym (length-map (below (marks seen) n) (λ k. k * step)) ∙ ap length t.are
 
   module _ {count : ℕ} (c : count ≡ length (below (marks seen) n)) {old : List ℕ} where
-    pub babies_short : length old < count → ListWritten [] bs old old (Refused 12)
+    pub babies_short : length old < count → ListWritten [] bs old old (Err Room)
     babies_short l = list_short bs old (c ∙ table_length) l
 
-    pub babies_written : {new : List ℕ} {at : ℕ} → count ≤ length old → Writing 0 (map (λ k. k * step) (below (marks seen) n)) old new at → ListWritten [] bs old new (Is count)
+    pub babies_written : {new : List ℕ} {at : ℕ} → count ≤ length old → Writing 0 (map (λ k. k * step) (below (marks seen) n)) old new at → ListWritten [] bs old new (Ok count)
     babies_written l w = list_written bs old (c ∙ table_length) l (writing_done w ∙ ap (λ (t : List ℕ). in_front t old) t.are)
 
   -- without the mark of 0
@@ -147,16 +142,11 @@ module _ {slots width : ℕ} {ds : List ℕ} (z : Sizable slots width ds) {n : �
   turns_are : n ≡ length (nonzeros (giants slots width ds))
   turns_are = rw (← same_giants z) c
 
-  turns_few : n ≤ 65536
-  turns_few = omega (arith, c, nonzeros_few (giants 65536 width ds), giants_few 65536 width ds)
+  pub own_few : n ≤ 65536
+  own_few = omega (arith, c, nonzeros_few (giants 65536 width ds), giants_few 65536 width ds)
 
-  pub width_switches : {s : LinearTransformationStrategy} → s ≡ Bsgs width → Switches slots s ds n
-  unfolding giant_switches
-  width_switches e = rw e (record { are = turns_are; few = turns_few })
-
-pub direct_switches : {slots : ℕ} {ds : List ℕ} → Sizable slots 1 ds → {n : ℕ} → n ≡ length (nonzeros (giants 65536 1 ds)) → {s : LinearTransformationStrategy} → s ≡ Direct → Switches slots s ds n
-unfolding giant_switches
-direct_switches z c e = rw e (record { are = turns_are z c; few = turns_few z c })
+  pub own_switches : {s : LinearTransformationStrategy} → Own s slots ds → width ≡ width_of s → Switches slots s ds n
+  own_switches o e = record { are = rw (o.switches_are, ← e) turns_are; few = own_few }
 
 pub powers_switches : {slots width : ℕ} {ds : List ℕ} {n : ℕ} {s : LinearTransformationStrategy} → s ≡ BsgsPowersOfTwo width → Switches slots (BsgsPowersOfTwo width) ds n → Switches slots s ds n
 powers_switches e w = rw e w
@@ -172,10 +162,10 @@ module _ {slots width : ℕ} {ds : List ℕ} (z : Sizable slots width ds) {seen 
   own_length = omega (arith, length-append (nonzeros (babies slots width ds)) (nonzeros (giants slots width ds)), c, turning_length t, turns_are z d)
 
   pub own_small : count + turns ≤ 131072
-  own_small = omega (arith, c, turning_length t, turning_few t, turns_few z d)
+  own_small = omega (arith, c, turning_length t, turning_few t, own_few z d)
 
   module _ (old : List ℕ) where
-    pub own_short : length old < count + turns → ListWritten [] own old old (Refused 12)
+    pub own_short : length old < count + turns → ListWritten [] own old old (Err Room)
     own_short l = list_short own old own_length l
 
     module _ (l : count + turns ≤ length old) where
@@ -184,7 +174,7 @@ module _ {slots width : ℕ} {ds : List ℕ} (z : Sizable slots width ds) {seen 
         turns_room = omega (arith, u.at_is, u.len, length-map (below (marks (set seen 0 false)) n) (λ k. k * step), c, d)
 
         module _ {new : List ℕ} {to : ℕ} (v : Writing at (nonzeros (giants 65536 width ds)) mid new to) where
-          pub own_written : ListWritten [] own old new (Is (count + turns))
+          pub own_written : ListWritten [] own old new (Ok (count + turns))
           own_written = list_written own old own_length l (writing_done (writing_then u v) ∙ rw (turning_babies t, same_giants z))
 
 -- with powers of two
@@ -216,7 +206,7 @@ module _ {slots width : ℕ} {ds : List ℕ} (z : Sizable slots width ds) {seen 
   power_small = omega (arith, c, below_le (λ i. non_empty (targets (below (marks seen) n) i)) 16, d, keyed_few (heap_levels slots width bits heap bits), levels_length slots width bits heap bits, p.small)
 
   module _ (old : List ℕ) where
-    pub power_short : length old < passes + levels → ListWritten [] (plan_keys slots (BsgsPowersOfTwo width) ds) old old (Refused 12)
+    pub power_short : length old < passes + levels → ListWritten [] (plan_keys slots (BsgsPowersOfTwo width) ds) old old (Err Room)
     power_short l = list_short (plan_keys slots (BsgsPowersOfTwo width) ds) old power_length l
 
     module _ (l : passes + levels ≤ length old) where
@@ -231,19 +221,14 @@ module _ {slots width : ℕ} {ds : List ℕ} (z : Sizable slots width ds) {seen 
               v.is
               ∙ rw (front_kept, u) (in_front_in_front (turns ++ steps) turns old (omega (arith, length-append turns steps)) (omega (arith, turns_length)))
 
-          pub power_written : ListWritten [] (plan_keys slots (BsgsPowersOfTwo width) ds) old new (Is (passes + levels))
+          pub power_written : ListWritten [] (plan_keys slots (BsgsPowersOfTwo width) ds) old new (Ok (passes + levels))
           power_written = list_written (plan_keys slots (BsgsPowersOfTwo width) ds) old power_length l (new_is ∙ ap (λ (t : List ℕ). in_front t old) power_keys_are)
 
 -- ---- by the strategy
 
-module _ (slots : ℕ) (ds : List ℕ) {s : LinearTransformationStrategy} {old new : List ℕ} {r : Answer} where
-  pub keys_width : {w : ℕ} → s ≡ Bsgs w → ListWritten [] (keys_per_rotation (babies slots w ds) (giants slots w ds)) old new r → ListWritten [] (plan_keys slots s ds) old new r
-  unfolding plan_keys
-  keys_width e t = rw e t
+module _ (slots : ℕ) (ds : List ℕ) {s : LinearTransformationStrategy} {old new : List ℕ} {r : Result ℕ Refusal} {w : ℕ} where
+  pub keys_own : Own s slots ds → w ≡ width_of s → ListWritten [] (keys_per_rotation (babies slots w ds) (giants slots w ds)) old new r → ListWritten [] (plan_keys slots s ds) old new r
+  keys_own o e t = rw (o.keys_are, ← e) t
 
-  pub keys_powers : {w : ℕ} → s ≡ BsgsPowersOfTwo w → ListWritten [] (plan_keys slots (BsgsPowersOfTwo w) ds) old new r → ListWritten [] (plan_keys slots s ds) old new r
+  pub keys_powers : s ≡ BsgsPowersOfTwo w → ListWritten [] (plan_keys slots (BsgsPowersOfTwo w) ds) old new r → ListWritten [] (plan_keys slots s ds) old new r
   keys_powers e t = rw e t
-
-  pub keys_direct : s ≡ Direct → ListWritten [] (keys_per_rotation (babies slots 1 ds) (giants slots 1 ds)) old new r → ListWritten [] (plan_keys slots s ds) old new r
-  unfolding plan_keys
-  keys_direct e t = rw e t

@@ -1,6 +1,6 @@
 -- What a strategy makes of sorted diagonals: baby step, babies, keys and switches.
 -- Assumes nothing.
-use Prim.Native.Nat.{ℕ, ◌+◌, ◌^◌, ◌≤◌, ◌<◌, max}
+use Prim.Native.Nat.{ℕ, ◌+◌, ◌^◌, ◌≤◌, ◌<◌}
 use mathlib.Core.Path.{◌≡◌, ap, ◌∙◌}
 use mathlib.Core.Bool.{Bool, true, false}
 use mathlib.Core.List.{List, [], ◌∷◌, ◌++◌, map, map-append}
@@ -16,13 +16,16 @@ use Rattle.ring.specs.Residues.{residue_of}
 use Rattle.ring.specs.Laws.Lists.{each_at}
 use Rattle.ring.specs.Laws.Residues.{residue_pos}
 use Rattle.ring.specs.Refusals.{Range}
+use Rattle.std.specs.Ordering.{ord_max, nat_cmp}
 use Rattle.linear_transformation.specs.Schedules.{baby_step, baby_multiples, plan_babies}
 use Rattle.linear_transformation.specs.Strategies.{width_outside}
 use Rattle.linear_transformation.specs.declared.LinearTransformationStrategy.{LinearTransformationStrategy}
 use Rattle.linear_transformation.specs.declared.LinearTransformationStrategy.TheVariants.{Bsgs, BsgsPowersOfTwo, Direct}
 use Rattle.linear_transformation.specs.Closures.{closure, nonzeros}
 use Rattle.linear_transformation.specs.Steps.Babies.{Bounded, Closes}
-use Rattle.linear_transformation.specs.declared.plan.PlanAnswer.{PlanAnswer}
+use Rattle.std.specs.Prelude.{Result}
+use Rattle.ring.specs.declared.refusal.Refusal.{Refusal}
+use Rattle.linear_transformation.specs.declared.plan.PlanSizes.{PlanSizes}
 use Rattle.linear_transformation.specs.declared.digits.Digit.{Digit}
 use Rattle.linear_transformation.specs.Plans.{width_of, babies, giants, Planned}
 use Rattle.linear_transformation.specs.Steps.Plans.{Writing, Diagonals, multiples, BabiesMarked, StepIs, MultiplesEnd, WordsWritten, RunEnd, RunFrom}
@@ -30,8 +33,9 @@ use Rattle.linear_transformation.specs.Steps.Trees.{Stepped, OneGiant, DigitIs, 
 use Rattle.linear_transformation.specs.Steps.Keys.{Sizable, Accepted, BabyTable, ClosureTable, giants_of}
 use Rattle.linear_transformation.specs.Laws.Plans.{giant_le, giant_times}
 use Rattle.linear_transformation.specs.Laws.Runs.{planned_bound, giants_none, Walked, walked_none, walked_more, walked_giants}
+use Rattle.linear_transformation.proofs.Strategies.{Own}
 use Rattle.linear_transformation.proofs.PlanAnswers.{babies_of, words_at, is_diagonals, own_babies_lem, step_is, closed_below, closed_babies, closable, closed_marks, in_range_lem, planned_at}
-use Rattle.linear_transformation.proofs.Signs.{natural_is}
+use Rattle.linear_transformation.proofs.Signs.{max_is, natural_is}
 use Rattle.linear_transformation.proofs.Listings.{largest_none, largest_more, leaves_marked_none, leaves_marked_more}
 use Rattle.linear_transformation.specs.Laws.Turns.{rest, giants_turning, planned_rest}
 use Rattle.linear_transformation.specs.Laws.CommonDivisors.{baby_step_bound}
@@ -83,8 +87,8 @@ pub topping_none : (slots width : ℕ) (ds : List ℕ) → Topping slots width d
 topping_none slots width ds = record { walked = walked_none width ds; so_far = rw (no_giants width) (largest_none slots width) }
 
 module _ {slots width : ℕ} {ds : List ℕ} {x at : ℕ} (s : Topping slots width ds x at) where
-  pub topping_more : {giant end : ℕ} {d : Digit} {m y : ℕ} → Sizable slots width ds → at < length ds → RunFrom width ds at giant end → DigitIs slots width (to_z w64 giant) d → m ≡ mag d.0 → y ≡ max x m → Topping slots width ds y end
-  topping_more z l r q i j = record { walked = walked_more (wide_planned z) s.walked l r; so_far = rw (giants_more z l r s.walked) (largest_more s.so_far (rw (giant_word z l r) at q) i j) }
+  pub topping_more : {giant end : ℕ} {d : Digit} {m y : ℕ} → Sizable slots width ds → at < length ds → RunFrom width ds at giant end → DigitIs slots width (to_z w64 giant) d → m ≡ mag d.0 → y ≡ ord_max nat_cmp x m → Topping slots width ds y end
+  topping_more {m = m} z l r q i j = record { walked = walked_more (wide_planned z) s.walked l r; so_far = rw (giants_more z l r s.walked) (largest_more s.so_far (rw (giant_word z l r) at q) i (j ∙ max_is x m)) }
 
   pub topping_done : length ds ≤ at → LargestIs slots width (giants_of width ds) x
   topping_done h = rw (take_all at ds h) at s.so_far
@@ -118,17 +122,16 @@ module _ {slots width : ℕ} {ds : List ℕ} (z : Sizable slots width ds) where
         are = own_babies_lem z.slots_in_fact z.width_in z.planned b m;
       }
 
-  pub closure_table : {seen seen' : List Bool} {step n x : ℕ} → StepIs width ds step → MultiplesEnd slots width step n → BabiesMarked width step ds seen → Closes n seen seen' → x ≡ step → ClosureTable slots width ds seen' n x
+  pub closure_table : {seen seen' : List Bool} {step n : ℕ} → StepIs width ds step → MultiplesEnd slots width step n → BabiesMarked width step ds seen → Closes n seen seen' → ClosureTable slots width ds seen' n step
   unfolding baby_multiples
-  closure_table {seen'} {step} s m b c e =
+  closure_table {seen'} {step} s m b c =
       let same = closed_marks z.slots_in_fact z.width_in z.planned m b c in
       let i : step ≡ baby_step slots width ds = step_is z.slots_in_fact z.width_in z.planned s m in
-      rw e
-      (record {
+      record {
         table = record { bounded = c.bounded; range = s.range; are = closed_babies z.slots_in_fact z.width_in z.planned s m seen' same };
         step_is = i;
         closure_is = closed_below z.slots_in_fact z.width_in z.planned s m seen' same ∙ ap (λ (x : ℕ). closure 16 (multiples slots width x ds)) i;
-      })
+      }
 
 -- by the strategy
 pub width_range : (s : LinearTransformationStrategy) → width_outside s ≡ false → Range (width_of s)
@@ -139,17 +142,12 @@ width_range Direct e = record { low = omega arith; high = omega arith }
 pub of_width : {slots w : ℕ} {s : LinearTransformationStrategy} {ds : List ℕ} → Accepted slots s ds → width_of s ≡ w → Sizable slots w ds
 of_width {s} a e = record { slots_in_fact = a.slots_in_fact; width_in = rw (← e) (width_range s a.width_in); planned = planned_at e a.planned }
 
-module _ (slots : ℕ) (ds : List ℕ) {s : LinearTransformationStrategy} {seen : List Bool} {n step : ℕ} where
-  pub table_width : {w : ℕ} → s ≡ Bsgs w → BabyTable (babies slots w ds) seen n step → BabyTable (plan_babies slots s ds) seen n step
-  unfolding plan_babies
-  table_width e t = rw e t
+module _ (slots : ℕ) (ds : List ℕ) {s : LinearTransformationStrategy} {seen : List Bool} {n step w : ℕ} where
+  pub table_own : Own s slots ds → w ≡ width_of s → BabyTable (babies slots w ds) seen n step → BabyTable (plan_babies slots s ds) seen n step
+  table_own o e t = rw (o.babies_are, ← e) t
 
-  pub table_powers : {w : ℕ} → s ≡ BsgsPowersOfTwo w → ClosureTable slots w ds seen n step → BabyTable (plan_babies slots s ds) seen n step
+  pub table_powers : s ≡ BsgsPowersOfTwo w → ClosureTable slots w ds seen n step → BabyTable (plan_babies slots s ds) seen n step
   table_powers e t = rw e t.table
-
-  pub table_direct : s ≡ Direct → BabyTable (babies slots 1 ds) seen n step → BabyTable (plan_babies slots s ds) seen n step
-  unfolding plan_babies
-  table_direct e t = rw e t
 
 -- ---- giants that are not 0
 
@@ -168,6 +166,6 @@ module _ {width : ℕ} {ds : List ℕ} (g : Diagonals width ds) {r : ℕ} (e : R
 
 -- ---- the plan's words
 
-pub plan_written : {slots : ℕ} {s : LinearTransformationStrategy} {ds : List ℕ} {seen : List Bool} {n step w : ℕ} {old new : List ℕ} {r : PlanAnswer} → Accepted slots s ds → BabyTable (plan_babies slots s ds) seen n step → w ≡ width_of s
+pub plan_written : {slots : ℕ} {s : LinearTransformationStrategy} {ds : List ℕ} {seen : List Bool} {n step w : ℕ} {old new : List ℕ} {r : Result PlanSizes Refusal} → Accepted slots s ds → BabyTable (plan_babies slots s ds) seen n step → w ≡ width_of s
     → WordsWritten (babies_of seen n step) 65536 w ds old new r → WordsWritten (plan_babies slots s ds) slots (width_of s) ds old new r
 plan_written {s} a t e v = words_at a.slots_in_fact (width_range s a.width_in) a.planned t.are (rw e at v)

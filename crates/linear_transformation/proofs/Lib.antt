@@ -1,4 +1,7 @@
 -- Laws that several proofs cite.
+pub mod Ranges
+pub mod Judgings
+pub mod Strategies
 pub mod BabyChecks
 pub mod BabyTables
 pub mod BabyLists

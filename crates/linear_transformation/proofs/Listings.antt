@@ -5,30 +5,38 @@ use mathlib.Core.Path.{◌≡◌, refl, sym, ap, ◌∙◌}
 use mathlib.Core.Bool.{Bool, true, false, not, ◌||◌, true≢false, or-true}
 use mathlib.Core.Logic.{⊎_elim}
 use mathlib.Core.List.{List, [], ◌∷◌, ◌++◌, map, map-append}
-use native.Mathlib.Nat.{suc-ne-zero, not-suc-le-zero, le-max_left, le-max_right, max_comm}
+use native.Mathlib.Nat.{not-suc-le-zero, le-max_left, le-max_right, max_comm}
 use native.Mathlib.Decide.{ℕ_discrete}
 use native.Mathlib.Omega.{arith}
-use borrow.Author.Tests.{eq-eqb, ne_eqb, ltb-true, le-ltb}
-use lib.Dec.{eqb, T}
+use Rattle.std.specs.Int.Count.{count_leading_zeros}
+use Rattle.std.proofs.lemmas.Nat.{leading_length}
+use borrow.Author.Tests.{eq-eqb, ne_eqb}
+use lib.Dec.{eqb}
 use lib.Pow.{pow_pos, pow_mono}
-use lib.IntN.{ℤ, pos, negsuc, nat_abs, ◌-ℤ◌}
-use lib.Signed.{mag, lt_z, non_neg}
+use lib.IntN.{ℤ, pos}
+use lib.Signed.{mag}
 use lib.ListN.{length, get_or, set, take, length-set}
 use lib.Seq.{get_or-set_same, get_or-set_other, take_all}
-use mir.Syntax.{w32, w64}
-use mir.Val.{Fits, SFits, of_z, to_z}
+use mir.Syntax.{w64}
+use mir.Val.{of_z, to_z}
 use mir.ValLaws.{to_z-of_z}
 use Rattle.ring.specs.Lists.{Each, some, among}
 use Rattle.ring.specs.Marks.{marks}
 use Rattle.ring.specs.Vectors.{tabulate, in_front, Filling}
 use Rattle.ring.specs.Laws.Vectors.{filling_none, filling_more, filled_front, map_tabulate, tabulate_get_or}
 use Rattle.ring.specs.Residues.{residue_of}
+use Rattle.std.specs.Prelude.{Result, Ok, Err}
+use Rattle.ring.specs.declared.refusal.Refusal.{Refusal}
+use Rattle.ring.specs.declared.refusal.Refusal.TheVariants as Named
 use Rattle.ring.specs.Refusals.{first_refusal, Range}
+use Rattle.ring.specs.Laws.Answers.{no_refused}
+use Rattle.linear_transformation.proofs.Judgings.{none_of, some_of, still_refused}
 use Rattle.ring.specs.Divisors.{divides}
 use Rattle.ring.specs.Laws.Searches.{lt_or_ge}
 use Rattle.ring.specs.Laws.Lists.{each_at}
-use Rattle.ring.specs.Laws.Refusals.{first_refused, first_later}
+use Rattle.ring.specs.Laws.Refusals.{first_later}
 use Rattle.ring.specs.Laws.Residues.{residue_lt}
+use Rattle.std.specs.Ordering.{ord_max, nat_cmp}
 use Rattle.linear_transformation.specs.declared.digits.Digit.{Digit}
 use Rattle.linear_transformation.specs.declared.rotations.BsgsRotations.TheVariants.{PowersOfTwo}
 use Rattle.linear_transformation.specs.Digits.{rot_of, digit, largest, bits_of, leaf, Giant}
@@ -36,6 +44,7 @@ use Rattle.linear_transformation.specs.Listed.{step_refusals, giant_refusals}
 use Rattle.linear_transformation.specs.Steps.Numbers.{Digitable, StepsJudged}
 use Rattle.linear_transformation.specs.Steps.Trees.{Stepped, Listed, Listing, AreMultiples, GiantsJudged, OneGiant, digit_at, DigitIs, LargestIs, BitsAre, LeafIs, LeafAsked, LeavesAsked, leaves_at, Blank, LeavesMarked}
 use Rattle.linear_transformation.specs.Laws.Bits.{digit_small, bits_positive, bits_least, bits_small, small_all}
+use Rattle.linear_transformation.proofs.Signs.{max_is}
 
 -- a giant that is read and handed on
 pub read_is : (z : ℤ) → mag z < 2 ^ 63 → to_z w64 (of_z w64 z) ≡ z
@@ -57,17 +66,17 @@ bad slots step z = not (divides step (residue_of z slots))
 
 -- further refusals behind the steps'
 module _ {b g n : ℕ} where
-  steps_first : (gs : List ℤ) {r : ℕ} → StepsJudged (PowersOfTwo b g n) r → r ≡ 0 → first_refusal (giant_refusals (PowersOfTwo b g n) gs) ≡ first_refusal ((some (bad n g) gs, 10) ∷ [])
-  steps_first gs s e = first_later (step_refusals (PowersOfTwo b g n)) ((some (bad n g) gs, 10) ∷ []) (suc-ne-zero 0, (suc-ne-zero 2, tt)) (sym s.answer ∙ e)
+  steps_first : (gs : List ℤ) {r : Result Unit Refusal} → StepsJudged (PowersOfTwo b g n) r → r ≡ Ok tt → first_refusal (giant_refusals (PowersOfTwo b g n) gs) ≡ first_refusal ((some (bad n g) gs, Named.Giant) ∷ [])
+  steps_first gs s e = first_later (step_refusals (PowersOfTwo b g n)) ((some (bad n g) gs, Named.Giant) ∷ []) (none_of s.answer e)
 
-  pub steps_wrong : {gs : List ℤ} {r : ℕ} → StepsJudged (PowersOfTwo b g n) r → (r ≡ 0 → ⊥) → GiantsJudged b g n gs r
-  steps_wrong {gs} s m = record { answer = s.answer ∙ sym (first_refused (step_refusals (PowersOfTwo b g n)) ((some (bad n g) gs, 10) ∷ []) (λ q. m (s.answer ∙ q))); accepted = λ h. absurd (m h) }
+  pub steps_wrong : {gs : List ℤ} {r : Result Unit Refusal} {x : Refusal} → StepsJudged (PowersOfTwo b g n) r → r ≡ Err x → GiantsJudged b g n gs (Err x)
+  steps_wrong {gs} s m = record { answer = rw (still_refused (step_refusals (PowersOfTwo b g n)) ((some (bad n g) gs, Named.Giant) ∷ []) (some_of s.answer m)); accepted = λ h. no_refused h }
 
-  pub giants_wrong : {gs : List ℤ} {r : ℕ} → StepsJudged (PowersOfTwo b g n) r → r ≡ 0 → {a : Bool} → AreMultiples n g gs a → a ≡ false → GiantsJudged b g n gs 10
-  giants_wrong {gs} s e {a} m f = record { answer = sym (steps_first gs s e ∙ rw (sym m.answer ∙ ap not f)); accepted = λ h. absurd (suc-ne-zero 9 h) }
+  pub giants_wrong : {gs : List ℤ} {r : Result Unit Refusal} → StepsJudged (PowersOfTwo b g n) r → r ≡ Ok tt → {a : Bool} → AreMultiples n g gs a → a ≡ false → GiantsJudged b g n gs (Err Named.Giant)
+  giants_wrong {gs} s e {a} m f = record { answer = rw (steps_first gs s e, ← m.answer, f); accepted = λ h. no_refused h }
 
-  pub giants_right : {gs : List ℤ} {r : ℕ} → StepsJudged (PowersOfTwo b g n) r → r ≡ 0 → {a : Bool} → AreMultiples n g gs a → a ≡ true → GiantsJudged b g n gs 0
-  giants_right {gs} s e {a} m f = record { answer = sym (steps_first gs s e ∙ rw (sym m.answer ∙ ap not f)); accepted = λ h. record { stepped = stepped (s.inside e).1.0 (s.inside e).1.1; each = m.each f } }
+  pub giants_right : {gs : List ℤ} {r : Result Unit Refusal} → StepsJudged (PowersOfTwo b g n) r → r ≡ Ok tt → {a : Bool} → AreMultiples n g gs a → a ≡ true → GiantsJudged b g n gs (Ok tt)
+  giants_right {gs} s e {a} m f = record { answer = rw (steps_first gs s e, ← m.answer, f); accepted = λ h. record { stepped = stepped (s.inside e).1.0 (s.inside e).1.1; each = m.each f } }
 
 -- the giants before t are multiples of the step
 pub record Checking (slots step : ℕ) (gs : List ℤ) (t : ℕ) : Type 0 where
@@ -116,40 +125,6 @@ module _ {slots step : ℕ} {z : ℤ} (g : OneGiant slots step z) where
       let a : Giant slots step (rot_of slots z) = record { reduced = residue_lt z slots g.stepped.some; multiple = g.listed } in
       record { is = f; small = rw f (digit_small slots step g.stepped.positive g.stepped.small (rot_of slots z) a) }
 
--- ---- magnitudes
-
-below_zero : (z : ℤ) → lt_z z (pos 0) ≡ true → negsuc 0 -ℤ z ≡ pos (mag z)
-below_zero (pos n) e = absurd (not-suc-le-zero (ltb-true n 0 e))
-below_zero (negsuc n) e = rw (le-ltb (suc n) 1 (omega arith)) (ap pos (omega arith))
-
-from_zero : (z : ℤ) → lt_z z (pos 0) ≡ false → z ≡ pos (mag z)
-from_zero (pos n) e = refl
-from_zero (negsuc n) e = absurd (true≢false e)
-
-module _ (z : ℤ) (h : mag z < 2 ^ 15) where
-  word : to_z w64 (of_z w64 z) ≡ z
-  word = read_is z (omega arith)
-
-  pos_word : to_z w64 (of_z w64 (pos (mag z))) ≡ pos (mag z)
-  pos_word = read_is (pos (mag z)) (omega arith)
-
-  module _ (e : lt_z (to_z w64 (of_z w64 z)) (pos 0) ≡ true) where
-    negated : negsuc 0 -ℤ to_z w64 (of_z w64 z) ≡ pos (mag z)
-    negated = rw word (below_zero z (rw word at e))
-
-    pub negated_fits : SFits w64 (negsuc 0 -ℤ to_z w64 (of_z w64 z))
-    negated_fits = rw negated (record { sfits = omega arith })
-
-    pub negated_is : to_z w64 (of_z w64 (negsuc 0 -ℤ to_z w64 (of_z w64 z))) ≡ pos (mag z)
-    negated_is = rw negated pos_word
-
-  pub natural_is : lt_z (to_z w64 (of_z w64 z)) (pos 0) ≡ false → to_z w64 (of_z w64 z) ≡ pos (mag z)
-  natural_is e = word ∙ from_zero z (rw word at e)
-
--- a small number is cast to a word
-pub cast_small : (y : ℤ) (n : ℕ) → y ≡ pos n → n < 2 ^ 15 → T (non_neg y) × Fits w32 (nat_abs y)
-cast_small y n e h = rw e (tt, record { fits = omega arith })
-
 -- ---- the largest digit
 
 pub record Measuring (slots step : ℕ) (gs : List ℤ) (x t : ℕ) : Type 0 where
@@ -195,11 +170,11 @@ pub leaf_inside : {slots step bits p l : ℕ} {z : ℤ} → bits ≤ 16 → p �
 leaf_inside {bits} b e q = omega (arith, q.low, pow_mono {i = bits} {j = 16} b)
 
 module _ {slots step : ℕ} {gs : List ℤ} {x t : ℕ} (s : Measuring slots step gs x t) where
-  pub measuring_more : {d : Digit} {m y : ℕ} → t < length gs → mag (get_or gs t (pos 0)) < 2 ^ 63 → DigitIs slots step (to_z w64 (of_z w64 (get_or gs t (pos 0)))) d → m ≡ mag d.0 → y ≡ max x m → Measuring slots step gs y (t + 1)
-  measuring_more {d} l f q i j =
+  pub measuring_more : {d : Digit} {m y : ℕ} → t < length gs → mag (get_or gs t (pos 0)) < 2 ^ 63 → DigitIs slots step (to_z w64 (of_z w64 (get_or gs t (pos 0)))) d → m ≡ mag d.0 → y ≡ ord_max nat_cmp x m → Measuring slots step gs y (t + 1)
+  measuring_more {m = m} l f q i j =
       record {
         room = omega arith;
-        so_far = rw (take_more gs t (pos 0) l) (largest_more s.so_far (rw (read_is (get_or gs t (pos 0)) f) at q) i j);
+        so_far = rw (take_more gs t (pos 0) l) (largest_more s.so_far (rw (read_is (get_or gs t (pos 0)) f) at q) i (j ∙ max_is x m));
       }
 
   pub measuring_done : length gs ≤ t → LargestIs slots step gs x
@@ -217,47 +192,30 @@ unfolding largest
 lt_largest n [] h = tt
 lt_largest n (d ∷ ds) h = (omega (arith, le-max_left (mag d.0) (largest ds)), lt_largest n ds (omega (arith, le-max_right (mag d.0) (largest ds))))
 
-pub record Growing (x half bits : ℕ) : Type 0 where
-  pub positive : 1 ≤ bits
-  pub half_is : half ≡ 2 ^ (bits - 1)
-  pub below : (c : ℕ) → c + 1 < bits → 2 ^ c ≤ x
-
-pub growing_none : (x : ℕ) → Growing x 1 1
-growing_none x = record { positive = omega arith; half_is = refl; below = λ c l. absurd (omega arith) }
-
-module _ {x half bits : ℕ} (s : Growing x half bits) where
-  pub growing_positive : 1 ≤ half
-  growing_positive = rw s.half_is (pow_pos (bits - 1))
-
-  pub growing_low : half ≤ x → x < 2 ^ 15 → bits ≤ 15
-  growing_low h k = ⊎_elim (λ l. omega arith) (λ (l : 16 ≤ bits). absurd (omega (arith, s.half_is, pow_mono {i = 15} {j = bits - 1} (omega arith)))) (lt_or_ge bits 16)
-
-  pub growing_more : half ≤ x → Growing x (2 * half) (bits + 1)
-  growing_more h =
-      let e : bits + 1 - 1 ≡ suc (bits - 1) = omega (arith, s.positive) in
-      record {
-        positive = omega arith;
-        half_is = rw e (omega (arith, s.half_is));
-        below = λ c l. ⊎_elim (λ (m : c + 1 < bits). s.below c m) (λ (m : bits ≤ c + 1). let q : c ≡ bits - 1 = omega arith in rw q (omega (arith, s.half_is))) (lt_or_ge (c + 1) bits);
-      }
-
-  least_is : (ds : List Digit) → x < half → largest ds ≡ x → bits_of ds ≡ bits
-  least_is ds l e =
-      let b : bits ≡ suc (bits - 1) = omega (arith, s.positive) in
-      let h : largest ds < 2 ^ (bits - 1) = omega (arith, s.half_is) in
-      let most : bits_of ds ≤ bits = rw b (bits_least ds (suc (bits - 1)) (omega arith) (small_all (bits - 1) ds (lt_largest (2 ^ (bits - 1)) ds h))) in
+-- x has m bits
+module _ {x m : ℕ} (high : x < 2 ^ m) (low : 2 ^ m ≤ 2 * x + 1) where
+  least_is : (ds : List Digit) → largest ds ≡ x → bits_of ds ≡ suc m
+  least_is ds e =
+      let h : largest ds < 2 ^ m = omega (arith, high) in
+      let most : bits_of ds ≤ suc m = bits_least ds (suc m) (omega arith) (small_all m ds (lt_largest (2 ^ m) ds h)) in
       let c = bits_of ds - 1 in
       let q : bits_of ds ≡ suc c = omega (arith, bits_positive ds) in
       let k : largest ds < 2 ^ c = largest_lt (2 ^ c) ds (pow_pos c) (bits_small ds c q) in
-      ⊎_elim (λ (m : c + 1 < bits). absurd (omega (arith, s.below c m))) (λ (m : bits ≤ c + 1). omega arith) (lt_or_ge (c + 1) bits)
+      ⊎_elim (λ (l : c < m). absurd (omega (arith, low, pow_mono {i = suc c} {j = m} l))) (λ (l : m ≤ c). omega arith) (lt_or_ge c m)
 
-  pub growing_done : x < half → x < 2 ^ 15 → BitsAre x bits
-  growing_done l k =
+  bits_by : x < 2 ^ 15 → BitsAre x (suc m)
+  bits_by h =
       record {
-        positive = s.positive;
-        small = ⊎_elim (λ (m : bits < 17). omega arith) (λ (m : 17 ≤ bits). absurd (omega (arith, s.below 15 (omega arith)))) (lt_or_ge bits 17);
-        is = λ ds e. least_is ds l e;
+        positive = omega arith;
+        small = ⊎_elim (λ (l : m < 16). omega arith) (λ (l : 16 ≤ m). absurd (omega (arith, low, pow_mono {i = 16} {j = m} l))) (lt_or_ge m 16);
+        is = λ ds e. least_is ds e;
       }
+
+pub bits_are : (x : ℕ) → x < 2 ^ 15 → BitsAre x (33 - count_leading_zeros 32 x)
+bits_are x h =
+    let d = leading_length 32 x (omega arith) in
+    let e : 33 - count_leading_zeros 32 x ≡ suc d.0 = omega (arith, d.1) in
+    rw e (bits_by d.2 d.3 h)
 
 -- ---- leaves
 

@@ -11,42 +11,42 @@ use native.Mathlib.Omega.{arith}
 use borrow.Author.Tests.{eqb-true, ne_eqb, le-ltb}
 use lib.Dec.{eqb, ltb}
 use lib.ListN.{length, get_or, set, take, drop, length-set}
-use lib.Seq.{take-suc, take_all, take_at, get_or-take, length-take-le}
+use lib.Seq.{take-suc, take_all, take_at}
 use Rattle.ring.specs.Lists.{some, among, Each}
 use Rattle.ring.specs.Marks.{marks, Unmarked}
 use Rattle.ring.specs.Vectors.{in_front}
 use Rattle.ring.specs.Refusals.{first_refusal}
-use Rattle.ring.specs.declared.Answer.{Answer}
-use Rattle.ring.specs.declared.Answer.TheVariants as Got
+use Rattle.std.specs.Prelude.{None, Result, Ok, Err}
+use Rattle.ring.specs.declared.refusal.Refusal.{Refusal}
+use Rattle.ring.specs.declared.refusal.Refusal.TheVariants.{Key, Room}
 use Rattle.ring.specs.Laws.Answers.{no_refused, same_value}
 use Rattle.ring.specs.Laws.Lists.{each_then, each_at}
 use Rattle.ring.specs.Laws.Searches.{both, first, second}
 use Rattle.ring.specs.Laws.Members.{some_append, one_of, left, right, among_left, among_right, among_split, among_some, below_among, each_among}
 use Rattle.linear_transformation.specs.declared.LinearTransformationStrategy.{LinearTransformationStrategy}
-use Rattle.linear_transformation.specs.declared.LinearTransformationStrategy.TheVariants.{Bsgs, BsgsPowersOfTwo, Direct}
-use Rattle.linear_transformation.specs.declared.stored.NeedsAnswer.{NeedsAnswer}
-use Rattle.linear_transformation.specs.declared.stored.NeedsAnswer.TheVariants as Needed
+use Rattle.linear_transformation.specs.declared.LinearTransformationStrategy.TheVariants.{BsgsPowersOfTwo}
+use Rattle.linear_transformation.specs.declared.stored.Needs.{Needs}
 use Rattle.linear_transformation.specs.Plans.{baby_of, giant_of, babies, giants, width_of}
 use Rattle.linear_transformation.specs.Closures.{nonzeros}
 use Rattle.linear_transformation.specs.Schedules.{plan_babies, keys_per_rotation, plan_keys, giant_switches, plan_switches}
 use Rattle.linear_transformation.specs.Calls.{ListWritten}
 use Rattle.linear_transformation.specs.Stored.{is_missing, pair_count, step_of, bits_for, needs_refusal, plan_needs}
 use Rattle.linear_transformation.specs.Steps.Plans.{Diagonals, StepIs}
-use Rattle.linear_transformation.specs.Steps.Keys.{Sizable, Accepted, Switches, BabySwitches, giants_of}
+use Rattle.linear_transformation.specs.Steps.Keys.{Sizable, Accepted, BabySwitches, giants_of}
 use Rattle.linear_transformation.specs.Steps.Trees.{Planted, heap_switches}
 use Rattle.linear_transformation.specs.Trees.{Tree}
-use Rattle.linear_transformation.specs.Steps.Stored.{StoredJudged, HeldMarked, turn_lacked, Lacking, Listed, PairsAre, keys_refusal, turns_each}
+use Rattle.linear_transformation.specs.Steps.Stored.{StoredJudged, HeldMarked, turn_lacked, Lacking, keys_refusal}
 use Rattle.linear_transformation.specs.Laws.Plans.{baby_le, giant_le, babies_have, giants_have}
-use Rattle.linear_transformation.specs.Laws.Runs.{some_member, giants_bound, babies_bound, planned_bound}
+use Rattle.linear_transformation.specs.Laws.Runs.{some_member, giants_bound, babies_bound}
 use Rattle.linear_transformation.specs.Laws.CommonDivisors.{baby_step_bound}
 use Rattle.linear_transformation.specs.Laws.Tables.{agree}
 use Rattle.linear_transformation.specs.Laws.Stored.{keys_low, power_keys_few, babies_switched}
 use Rattle.linear_transformation.proofs.Writings.{mark_more}
 use Rattle.linear_transformation.proofs.BabyChecks.{some_here, Clear, clear_none, clear_more, clear_done}
-use Rattle.linear_transformation.proofs.Plannings.{diagonal_low}
 use Rattle.linear_transformation.proofs.Storings.{stored_first, stored_later}
+use Rattle.linear_transformation.proofs.Strategies.{Own}
 use Rattle.linear_transformation.proofs.Growth.{sizes}
-use Rattle.linear_transformation.proofs.KeyAnswers.{plan_tree_lem}
+use Rattle.linear_transformation.proofs.KeyAnswers.{plan_tree_lem, pairs_counted}
 
 -- ---- the held list
 
@@ -164,9 +164,6 @@ module _ {width : ℕ} {ds : List ℕ} {t : ℕ} (g : Diagonals width ds) (l : t
   pub baby_small : get_or ds t 0 % width < 65536
   baby_small = let p = g.planned.positive in omega (arith, mod-lt (get_or ds t 0) p, g.narrow)
 
-  pub rest_small : get_or ds t 0 - get_or ds t 0 % width < 65536
-  rest_small = omega (arith, diagonal_low g l)
-
 -- the keys of the first t diagonals are marked
 pub record TurnsHeld (width : ℕ) (ds : List ℕ) (seen : List Bool) (t : ℕ) : Type 0 where
   pub clear : Clear (turns_lacked width seen) ds t
@@ -202,50 +199,43 @@ pub listed_lacking : {keys : List ℕ} {seen : List Bool} {r : Bool} → Each (�
 unfolding is_missing
 listed_lacking {keys} l e = record { are = λ held m. e ∙ unmarked_missing keys l m }
 
--- the first t numbers of the list are marked
-pub record ListHeld (count : ℕ) (list : List ℕ) (seen : List Bool) (t : ℕ) : Type 0 where
-  pub clear : Clear (λ k. not (marks seen k)) (take count list) t
+-- the first t keys are marked
+pub record ListHeld (keys : List ℕ) (seen : List Bool) (t : ℕ) : Type 0 where
+  pub clear : Clear (λ k. not (marks seen k)) keys t
 
-pub list_held : (count : ℕ) (list : List ℕ) (seen : List Bool) → ListHeld count list seen 0
-list_held count list seen = record { clear = clear_none (λ k. not (marks seen k)) (take count list) }
+pub list_held : (keys : List ℕ) (seen : List Bool) → ListHeld keys seen 0
+list_held keys seen = record { clear = clear_none (λ k. not (marks seen k)) keys }
 
-module _ {count : ℕ} {list : List ℕ} {t : ℕ} (i : Listed count list) (h : t < count) where
-  taken_at : get_or (take count list) t 0 ≡ get_or list t 0
-  taken_at = get_or-take count list t 0 h
+pub listed_low : (keys : List ℕ) {t : ℕ} → Each (λ k. k < 65536) keys → t < length keys → get_or keys t 0 < 65536
+listed_low keys {t} e l = each_at (λ k. k < 65536) keys 0 e t l
 
-  taken_in : t < length (take count list)
-  taken_in = omega (arith, length-take-le count list i.room)
+module _ {keys : List ℕ} {seen : List Bool} {t : ℕ} (s : ListHeld keys seen t) (each : Each (λ k. k < 65536) keys) where
+  module _ (h : t < length keys) where
+    pub listed_found : marks seen (get_or keys t 0) ≡ false → Lacking keys seen true
+    listed_found q = listed_lacking each (sym (some_here (λ k. not (marks seen k)) keys t 0 h (rw q)))
 
-  pub listed_low : {o : ℕ} → o ≡ get_or list t 0 → o < 65536
-  listed_low e = omega (arith, e, taken_at, each_at (λ k. k < 65536) (take count list) 0 i.low t taken_in)
+    pub listed_more : marks seen (get_or keys t 0) ≡ true → ListHeld keys seen (t + 1)
+    listed_more q = record { clear = clear_more s.clear 0 h (rw q) }
 
-module _ {count : ℕ} {list : List ℕ} {seen : List Bool} {t : ℕ} (s : ListHeld count list seen t) (i : Listed count list) where
-  module _ (h : t < count) {o : ℕ} (e : o ≡ get_or list t 0) {b : Bool} (m : b ≡ not (marks seen o)) where
-    pub listed_found : b ≡ true → Lacking (take count list) seen true
-    listed_found q = listed_lacking i.low (sym (some_here (λ k. not (marks seen k)) (take count list) t 0 (taken_in i h) (rw (taken_at i h, ← e) (sym m ∙ q))))
-
-    pub listed_more : b ≡ false → ListHeld count list seen (t + 1)
-    listed_more q = record { clear = clear_more s.clear 0 (taken_in i h) (rw (taken_at i h, ← e) (sym m ∙ q)) }
-
-  pub listed_none : count ≤ t → Lacking (take count list) seen false
-  listed_none h = listed_lacking i.low (sym (clear_done s.clear (omega (arith, length-take-le count list i.room))))
+  pub listed_none : length keys ≤ t → Lacking keys seen false
+  listed_none h = listed_lacking each (sym (clear_done s.clear h))
 
 -- ---- the keys with powers of two
 
-module _ {slots width : ℕ} {ds : List ℕ} (z : Sizable slots width ds) {old new : List ℕ} (l : length old ≡ 32) {a : Answer} (w : ListWritten [] (plan_keys slots (BsgsPowersOfTwo width) ds) old new a) where
-  keys_fit : first_refusal ((ltb (length old) (length (plan_keys slots (BsgsPowersOfTwo width) ds)), 12) ∷ []) ≡ 0
+module _ {slots width : ℕ} {ds : List ℕ} (z : Sizable slots width ds) {old new : List ℕ} (l : length old ≡ 32) {a : Result ℕ Refusal} (w : ListWritten [] (plan_keys slots (BsgsPowersOfTwo width) ds) old new a) where
+  keys_fit : first_refusal ((ltb (length old) (length (plan_keys slots (BsgsPowersOfTwo width) ds)), Room) ∷ []) ≡ None
   keys_fit = rw (le-ltb (length old) (length (plan_keys slots (BsgsPowersOfTwo width) ds)) (omega (arith, power_keys_few slots width ds z.width_in.low z.slots_in_fact.high)))
 
-  keys_answer : a ≡ Got.Is (length (plan_keys slots (BsgsPowersOfTwo width) ds))
+  keys_answer : a ≡ Ok (length (plan_keys slots (BsgsPowersOfTwo width) ds))
   keys_answer = w.answer ∙ rw keys_fit
 
   keys_words : new ≡ in_front (plan_keys slots (BsgsPowersOfTwo width) ds) old
   keys_words = w.words ∙ rw keys_fit
 
-  pub never_refused : {e : ℕ} {X : Type 0} → a ≡ Got.Refused e → X
+  pub never_refused : {e : Refusal} {X : Type 0} → a ≡ Err e → X
   never_refused q = no_refused (sym q ∙ keys_answer)
 
-  module _ {count : ℕ} (q : a ≡ Got.Is count) where
+  module _ {count : ℕ} (q : a ≡ Ok count) where
     count_is : count ≡ length (plan_keys slots (BsgsPowersOfTwo width) ds)
     count_is = same_value (sym q ∙ keys_answer)
 
@@ -253,121 +243,71 @@ module _ {slots width : ℕ} {ds : List ℕ} (z : Sizable slots width ds) {old n
     unfolding in_front
     list_is = ap (take count) keys_words ∙ take_at (plan_keys slots (BsgsPowersOfTwo width) ds) (drop (length (plan_keys slots (BsgsPowersOfTwo width) ds)) old) count (sym count_is)
 
-    pub powers_listed : length new ≡ 32 → Listed count new
-    powers_listed m =
-        record {
-          few = omega (arith, count_is, power_keys_few slots width ds z.width_in.low z.slots_in_fact.high);
-          room = omega (arith, count_is, power_keys_few slots width ds z.width_in.low z.slots_in_fact.high);
-          low = rw list_is (each_then (λ k h. omega (arith, z.slots_in_fact.high)) (plan_keys slots (BsgsPowersOfTwo width) ds) (keys_low slots (BsgsPowersOfTwo width) ds z.slots_in_fact.low));
-        }
+    pub powers_listed : Each (λ k. k < 65536) (take count new)
+    powers_listed = rw list_is (each_then (λ k h. omega (arith, z.slots_in_fact.high)) (plan_keys slots (BsgsPowersOfTwo width) ds) (keys_low slots (BsgsPowersOfTwo width) ds z.slots_in_fact.low))
 
     pub powers_lacking : {seen : List Bool} {r : Bool} → Lacking (take count new) seen r → Lacking (plan_keys slots (BsgsPowersOfTwo width) ds) seen r
     powers_lacking m = rw list_is at m
 
 -- ---- by the strategy
 
--- where no rotation has its own key
-powers_of : (s : LinearTransformationStrategy) → turns_each s ≡ false → s ≡ BsgsPowersOfTwo (width_of s)
-unfolding turns_each
-powers_of (Bsgs w) e = absurd (true≢false e)
-powers_of (BsgsPowersOfTwo w) e = refl
-powers_of Direct e = absurd (true≢false e)
+module _ {s : LinearTransformationStrategy} {w : ℕ} (n : w ≡ width_of s) {slots : ℕ} {ds : List ℕ} (a : Accepted slots s ds) {seen : List Bool} {r : Bool} where
+  pub lacks_each : Own s slots ds → Lacking (keys_per_rotation (babies 65536 w ds) (giants 65536 w ds)) seen r → Lacking (plan_keys slots s ds) seen r
+  lacks_each o m = rw (o.keys_are, ← babies_bound a.planned 65536 a.slots_in_fact.high a.slots_in_fact.low, ← giants_bound a.planned 65536 a.slots_in_fact.high, ← n) m
 
--- where each has
-each_keys : (slots : ℕ) (s : LinearTransformationStrategy) (ds : List ℕ) → turns_each s ≡ true → plan_keys slots s ds ≡ keys_per_rotation (babies slots (width_of s) ds) (giants slots (width_of s) ds)
-unfolding turns_each plan_keys
-each_keys slots (Bsgs w) ds e = refl
-each_keys slots (BsgsPowersOfTwo w) ds e = absurd (true≢false (sym e))
-each_keys slots Direct ds e = refl
-
-module _ (s : LinearTransformationStrategy) {w : ℕ} (n : w ≡ width_of s) where
-  pub powers_named : turns_each s ≡ false → s ≡ BsgsPowersOfTwo w
-  powers_named e = powers_of s e ∙ sym (ap BsgsPowersOfTwo n)
-
-  module _ {slots : ℕ} {ds : List ℕ} (a : Accepted slots s ds) {seen : List Bool} {r : Bool} where
-    pub lacks_each : turns_each s ≡ true → Lacking (keys_per_rotation (babies 65536 w ds) (giants 65536 w ds)) seen r → Lacking (plan_keys slots s ds) seen r
-    lacks_each e m = rw (each_keys slots s ds e, ← babies_bound a.planned 65536 a.slots_in_fact.high a.slots_in_fact.low, ← giants_bound a.planned 65536 a.slots_in_fact.high, ← n) m
-
-    pub lacks_powers : turns_each s ≡ false → Lacking (plan_keys slots (BsgsPowersOfTwo w) ds) seen r → Lacking (plan_keys slots s ds) seen r
-    lacks_powers e m = rw (sym (powers_named e)) at m
+  pub lacks_powers : s ≡ BsgsPowersOfTwo w → Lacking (plan_keys slots (BsgsPowersOfTwo w) ds) seen r → Lacking (plan_keys slots s ds) seen r
+  lacks_powers e m = rw e m
 
 -- ---- the numbers of a plan
 
-module _ {s : LinearTransformationStrategy} {n : ℕ} where
-  pub pairs_width : {w : ℕ} → s ≡ Bsgs w → PairsAre s n 0
-  unfolding pair_count
-  pairs_width e = rw e (record { are = λ slots ks h. refl })
-
-  pub pairs_powers : {w : ℕ} → s ≡ BsgsPowersOfTwo w → PairsAre s n n
-  unfolding pair_count giant_switches
-  pairs_powers e = rw e (record { are = λ slots ks h. h })
-
-  pub pairs_direct : s ≡ Direct → PairsAre s n 0
-  unfolding pair_count
-  pairs_direct e = rw e (record { are = λ slots ks h. refl })
-
--- per rotation there is no b
-pub no_bits : (slots : ℕ) (s : LinearTransformationStrategy) (ds : List ℕ) → turns_each s ≡ true → 0 ≡ bits_for slots s ds
-unfolding turns_each bits_for
-no_bits slots (Bsgs w) ds e = refl
-no_bits slots (BsgsPowersOfTwo w) ds e = absurd (true≢false (sym e))
-no_bits slots Direct ds e = refl
-
 -- b of the planted tree
-pub bits_planted : {slots width : ℕ} {ds : List ℕ} {s : LinearTransformationStrategy} {heap : List Bool} {bits count : ℕ} → s ≡ BsgsPowersOfTwo width → Sizable slots width ds → Planted slots width (giants_of width ds) heap bits → count ≡ heap_switches bits heap bits → bits ≡ bits_for slots s ds
+bits_planted : {slots width : ℕ} {ds : List ℕ} {heap : List Bool} {bits count : ℕ} → Sizable slots width ds → Planted slots width (giants_of width ds) heap bits → count ≡ heap_switches bits heap bits → bits ≡ bits_for slots (BsgsPowersOfTwo width) ds
 unfolding bits_for
-bits_planted e z p c = rw e ((sizes p c).bits ∙ ap (λ (t : Tree). t.bits) (plan_tree_lem z))
+bits_planted z p c = (sizes p c).bits ∙ ap (λ (t : Tree). t.bits) (plan_tree_lem z)
 
-module _ (ds : List ℕ) {s : LinearTransformationStrategy} where
-  pub step_width : {w : ℕ} → s ≡ Bsgs w → 0 ≡ step_of 65536 s ds
-  unfolding step_of
-  step_width e = rw e
-
-  pub step_powers : {w r : ℕ} → s ≡ BsgsPowersOfTwo w → StepIs w ds r → r ≡ step_of 65536 s ds
-  unfolding step_of
-  step_powers e i = rw e i.is
-
-  pub step_direct : s ≡ Direct → 0 ≡ step_of 65536 s ds
-  unfolding step_of
-  step_direct e = rw e
-
-step_bound : {slots : ℕ} (s : LinearTransformationStrategy) {ds : List ℕ} → Accepted slots s ds → step_of 65536 s ds ≡ step_of slots s ds
+step_bound : {slots width step : ℕ} {ds : List ℕ} → Sizable slots width ds → StepIs width ds step → step ≡ step_of slots (BsgsPowersOfTwo width) ds
 unfolding step_of
-step_bound (Bsgs w) a = refl
-step_bound (BsgsPowersOfTwo w) a = baby_step_bound a.planned 65536 a.slots_in_fact.high a.slots_in_fact.low
-step_bound Direct a = refl
+step_bound z i = i.is ∙ baby_step_bound z.planned 65536 z.slots_in_fact.high z.slots_in_fact.low
 
-module _ {slots : ℕ} {s : LinearTransformationStrategy} {ds : List ℕ} (a : Accepted slots s ds) where
-  pub wide_accepted : Accepted 65536 s ds
-  wide_accepted = record { slots_in_fact = record { low = omega arith; high = omega arith }; width_in = a.width_in; planned = planned_bound a.planned 65536 a.slots_in_fact.high }
+module _ {slots : ℕ} {s : LinearTransformationStrategy} {ds : List ℕ} (a : Accepted slots s ds) {made width count : ℕ} (b : BabySwitches slots s ds made) (w : width ≡ width_of s) (c : count ≡ length (giants 65536 width ds)) where
+  babies_made : made + 1 ≡ length (plan_babies slots s ds)
+  babies_made = omega (arith, b.are, babies_switched slots ds a.slots_in_fact.low s)
 
-  pub needs_are : {made turns width count pairs step bits : ℕ} → BabySwitches slots s ds made → Switches slots s ds turns → width ≡ width_of s → count ≡ length (giants 65536 width ds) → PairsAre s turns pairs → step ≡ step_of 65536 s ds → bits ≡ bits_for slots s ds
-      → Needed.Is (made + 1) count pairs (made + turns) step bits ≡ plan_needs 0 slots s ds
+  giants_made : count ≡ length (giants slots (width_of s) ds)
+  giants_made = c ∙ ap (λ (v : ℕ). length (giants 65536 v ds)) w ∙ ap length (giants_bound a.planned 65536 a.slots_in_fact.high)
+
+  pub needs_are : {turns pairs step bits : ℕ} → turns ≡ giant_switches slots s ds → pairs ≡ pair_count slots s ds → step ≡ step_of slots s ds → bits ≡ bits_for slots s ds
+      → Ok (record { babies = made + 1; giants = count; pairs = pairs; switches = made + turns; step = step; bits = bits }) ≡ plan_needs None slots s ds
   unfolding plan_needs plan_switches
-  needs_are {made} {turns} {width} {count} {pairs} {step} b t w c p q o =
-      let x : made + 1 ≡ length (plan_babies slots s ds) = omega (arith, b.are, babies_switched slots ds a.slots_in_fact.low s) in
-      let y : count ≡ length (giants slots (width_of s) ds) = c ∙ ap (λ (v : ℕ). length (giants 65536 v ds)) w ∙ ap length (giants_bound a.planned 65536 a.slots_in_fact.high) in
-      let k : pairs ≡ pair_count slots s ds = p.are slots ds t.are in
-      let e : step ≡ step_of slots s ds = q ∙ step_bound s a in
-      rw (x, y, k, e, o, b.are, t.are) refl
+  needs_are t p q o = rw (babies_made, giants_made, p, q, o, b.are, t) refl
+
+  pub turn_needs_are : Own s slots ds → {turns : ℕ} → turns ≡ length (nonzeros (giants 65536 width ds))
+      → Ok (record { babies = made + 1; giants = count; pairs = 0; switches = made + turns; step = 0; bits = 0 }) ≡ plan_needs None slots s ds
+  turn_needs_are o t =
+      needs_are
+      (t ∙ ap (λ (v : ℕ). length (nonzeros (giants 65536 v ds))) w ∙ ap (λ (gs : List ℕ). length (nonzeros gs)) (giants_bound a.planned 65536 a.slots_in_fact.high) ∙ sym o.switches_are)
+      (sym o.no_pairs) (sym o.no_step) (sym o.no_bits)
+
+  pub power_needs_are : s ≡ BsgsPowersOfTwo width → Sizable slots width ds → {heap : List Bool} {bits pairs step : ℕ} → Planted slots width (giants_of width ds) heap bits → pairs ≡ heap_switches bits heap bits → StepIs width ds step
+      → Ok (record { babies = made + 1; giants = count; pairs = pairs; switches = made + pairs; step = step; bits = bits }) ≡ plan_needs None slots s ds
+  unfolding pair_count giant_switches
+  power_needs_are e z p k i =
+      needs_are (rw e (pairs_counted z p k).are) (rw e (pairs_counted z p k).are) (rw e (step_bound z i)) (rw e (bits_planted z p k))
 
 -- ---- the call
 
-refused_by : (e slots : ℕ) (s : LinearTransformationStrategy) (ks : List ℕ) → (e ≡ 0 → ⊥) → Needed.Refused e ≡ plan_needs e slots s ks
-unfolding plan_needs
-refused_by zero slots s ks n = absurd (n refl)
-refused_by (suc e) slots s ks n = refl
-
 module _ (slots : ℕ) (s : LinearTransformationStrategy) (ks : List ℕ) {held : List ℕ} {seen : List Bool} {b : Bool} (m : HeldMarked held seen) (l : Lacking (plan_keys slots s ks) seen b) where
-  pub keys_missing : b ≡ true → Needed.Refused 11 ≡ plan_needs (keys_refusal slots s ks held) slots s ks
-  keys_missing h = rw (sym (l.are held m) ∙ h) (refused_by 11 slots s ks (suc-ne-zero 10))
+  pub keys_missing : b ≡ true → Err Key ≡ plan_needs (keys_refusal slots s ks held) slots s ks
+  unfolding plan_needs
+  keys_missing h = rw (sym (l.are held m) ∙ h)
 
-  pub keys_held : {a : NeedsAnswer} → b ≡ false → a ≡ plan_needs 0 slots s ks → a ≡ plan_needs (keys_refusal slots s ks held) slots s ks
+  pub keys_held : {a : Result Needs Refusal} → b ≡ false → a ≡ plan_needs None slots s ks → a ≡ plan_needs (keys_refusal slots s ks held) slots s ks
   keys_held h q = rw (sym (l.are held m) ∙ h) q
 
-module _ {slots : ℕ} {s : LinearTransformationStrategy} {ks : List ℕ} {r : ℕ} (j : StoredJudged slots s ks r) (held : List ℕ) where
-  pub needs_refused : (r ≡ 0 → ⊥) → Needed.Refused r ≡ plan_needs (needs_refusal slots s ks held) slots s ks
-  needs_refused n = rw (stored_first j ((is_missing held (plan_keys slots s ks), 11) ∷ []) n) (refused_by r slots s ks n)
+module _ {slots : ℕ} {s : LinearTransformationStrategy} {ks : List ℕ} {r : Result Unit Refusal} (j : StoredJudged slots s ks r) (held : List ℕ) where
+  pub needs_refused : {x : Refusal} → r ≡ Err x → Err x ≡ plan_needs (needs_refusal slots s ks held) slots s ks
+  unfolding plan_needs
+  needs_refused n = rw (stored_first j ((is_missing held (plan_keys slots s ks), Key) ∷ []) n)
 
-  pub needs_told : {a : NeedsAnswer} → r ≡ 0 → a ≡ plan_needs (keys_refusal slots s ks held) slots s ks → a ≡ plan_needs (needs_refusal slots s ks held) slots s ks
-  needs_told e q = rw (stored_later j ((is_missing held (plan_keys slots s ks), 11) ∷ []) e) q
+  pub needs_told : {a : Result Needs Refusal} → r ≡ Ok tt → a ≡ plan_needs (keys_refusal slots s ks held) slots s ks → a ≡ plan_needs (needs_refusal slots s ks held) slots s ks
+  needs_told e q = rw (stored_later j ((is_missing held (plan_keys slots s ks), Key) ∷ []) e) q

@@ -1,29 +1,30 @@
 -- The whole plan: its sizes, its words over the babies that a table of marks stands for, and the answers of the calls.
 -- Assumes nothing.
-use Prim.Native.Nat.{ℕ, zero, suc, ◌+◌, ◌-◌, ◌*◌, ◌/◌, ◌≤◌, ◌<◌}
+use Prim.Native.Nat.{ℕ, ◌+◌, ◌-◌, ◌*◌, ◌/◌, ◌≤◌, ◌<◌}
 use mathlib.Core.Path.{◌≡◌, refl, sym, ap, ◌∙◌}
 use mathlib.Core.Bool.{Bool, true, false}
 use mathlib.Core.List.{List, [], ◌∷◌, map}
-use native.Mathlib.Nat.{suc-ne-zero, div-le_self, le-div_iff_mul-le, div-add-mod', div-one, mul-one}
+use native.Mathlib.Nat.{div-le_self, le-div_iff_mul-le, div-add-mod', div-one, mul-one}
 use native.Mathlib.Omega.{arith}
 use borrow.Author.Tests.{lt-ltb, le-ltb}
 use lib.Dec.{ltb}
-use lib.ListN.{length, take, drop, length-map, length-append}
+use lib.ListN.{length, length-map}
 use lib.IntN.{ℤ}
-use lib.Seq.{take_at}
 use Rattle.ring.specs.Lists.{Each, among}
-use Rattle.ring.specs.Vectors.{in_front}
 use Rattle.ring.specs.Searches.{below}
+use Rattle.std.specs.Prelude.{Result, Ok, Err}
+use Rattle.ring.specs.declared.refusal.Refusal.{Refusal}
+use Rattle.ring.specs.declared.refusal.Refusal.TheVariants.{Room}
 use Rattle.ring.specs.Refusals.{first_refusal, outside, Range}
 use Rattle.ring.specs.Marks.{marks}
+use Rattle.ring.specs.Calls.{MarksCounted}
 use Rattle.ring.specs.Laws.Lists.{each_then, each_both, each_map}
 use Rattle.ring.specs.Laws.Searches.{by_false}
-use Rattle.ring.specs.Laws.Refusals.{inside, first_refused, first_later}
+use Rattle.ring.specs.Laws.Refusals.{inside, first_later}
 use Rattle.ring.specs.Laws.Below.{below_le, below_ext}
 use Rattle.linear_transformation.specs.Plans.{width_of, babies, giants, plan_pairs, plan_index, words_with, Planned}
 use Rattle.ring.specs.Residues.{diagonals_of}
-use Rattle.linear_transformation.specs.declared.plan.PlanAnswer.{PlanAnswer}
-use Rattle.linear_transformation.specs.declared.plan.PlanAnswer.TheVariants.{Refused, Is}
+use Rattle.linear_transformation.specs.declared.plan.PlanSizes.{PlanSizes}
 use Rattle.linear_transformation.specs.declared.LinearTransformationStrategy.{LinearTransformationStrategy}
 use Rattle.linear_transformation.specs.declared.LinearTransformationStrategy.TheVariants.{BsgsPowersOfTwo}
 use Rattle.linear_transformation.specs.Schedules.{baby_step, baby_multiples, plan_babies, plan_words}
@@ -31,13 +32,14 @@ use Rattle.linear_transformation.specs.Closures.{closure, baby_closure}
 use Rattle.linear_transformation.specs.Calls.{plan_refusals, plan_refusal, PlanWritten}
 use Rattle.linear_transformation.specs.Steps.Keys.{PlanJudged}
 use Rattle.linear_transformation.specs.Steps.Babies.{Bounded, Closes}
-use Rattle.linear_transformation.specs.Steps.Plans.{Sorted, Writing, Diagonals, multiples, BabiesMarked, StepIs, MultiplesEnd, WordsWritten}
+use Rattle.linear_transformation.specs.Steps.Plans.{Writing, Diagonals, multiples, BabiesMarked, StepIs, MultiplesEnd, WordsWritten}
 use Rattle.ring.specs.Laws.Members.{each_among, rising_below}
 use Rattle.linear_transformation.specs.Laws.Plans.{words_length, babies_rise, babies_below, babies_narrow}
 use Rattle.linear_transformation.specs.Laws.Closures.{cleared_lower, positive, closure_least, closure_rising}
 use Rattle.linear_transformation.specs.Laws.Tables.{closes_closure}
 use Rattle.linear_transformation.specs.Laws.Runs.{planned_length, planned_bound, giants_bound, babies_bound, words_bound, pairs_as_words, pairs_words_length, giants_few}
 use Rattle.linear_transformation.specs.Laws.CommonDivisors.{baby_step_bound}
+use Rattle.linear_transformation.proofs.Judgings.{none_of, some_of, still_refused}
 use Rattle.linear_transformation.proofs.Writings.{writing_then, writing_done}
 
 -- ---- the whole plan
@@ -46,26 +48,30 @@ use Rattle.linear_transformation.proofs.Writings.{writing_then, writing_done}
 abbrev pub babies_of : List Bool → ℕ → ℕ → List ℕ
 babies_of seen n step = map (λ k. k * step) (below (marks seen) n)
 
--- the sizes are known
+-- the sizes are known, and small
 pub record Sizes (width step : ℕ) (ds : List ℕ) (seen : List Bool) (n nb ng : ℕ) : Type 0 where
   pub diagonals : Diagonals width ds
   pub babies_are : nb ≡ length (below (marks seen) n)
   pub giants_are : ng ≡ length (giants 65536 width ds)
+  pub small : nb + 3 * ng + length ds ≤ 65536 * 5
 
-pub sizes : {width : ℕ} (step : ℕ) {ds : List ℕ} {seen : List Bool} {n nb ng : ℕ} → Diagonals width ds → nb ≡ length (below (marks seen) n) → ng ≡ length (giants 65536 width ds) → Sizes width step ds seen n nb ng
-sizes step g b e = record { diagonals = g; babies_are = b; giants_are = e }
+pub sizes : {width : ℕ} (step : ℕ) {ds : List ℕ} {seen : List Bool} {n nb ng : ℕ} → Diagonals width ds → MarksCounted seen n nb → n ≤ 65536 → ng ≡ length (giants 65536 width ds) → Sizes width step ds seen n nb ng
+sizes {width} step {ds} {seen} {n} g m h e =
+    record {
+      diagonals = g;
+      babies_are = m.within h;
+      giants_are = e;
+      small = omega (arith, m.within h, e, below_le (marks seen) n, giants_few 65536 width ds, planned_length g.planned);
+    }
 
 module _ {width step : ℕ} {ds : List ℕ} {seen : List Bool} {n nb ng : ℕ} (z : Sizes width step ds seen n nb ng) where
   babies_length : length (babies_of seen n step) ≡ nb
   babies_length = length-map (below (marks seen) n) (λ k. k * step) ∙ sym z.babies_are
 
-  pub sizes_small : n ≤ 65536 → nb + 3 * ng + length ds ≤ 65536 * 5
-  sizes_small h = omega (arith, z.babies_are, z.giants_are, below_le (marks seen) n, giants_few 65536 width ds, planned_length z.diagonals.planned)
-
   plan_length : length (words_with (babies_of seen n step) 65536 width ds) ≡ nb + 3 * ng + length ds
   plan_length = words_length z.diagonals.planned (babies_of seen n step) ∙ rw (babies_length, z.giants_are)
 
-  pub no_room : (plan : List ℕ) → length plan < nb + 3 * ng + length ds → WordsWritten (babies_of seen n step) 65536 width ds plan plan (Refused 12)
+  pub no_room : (plan : List ℕ) → length plan < nb + 3 * ng + length ds → WordsWritten (babies_of seen n step) 65536 width ds plan plan (Err Room)
   no_room plan h =
       let e : ltb (length plan) (length (words_with (babies_of seen n step) 65536 width ds)) ≡ true = rw plan_length (lt-ltb (length plan) (nb + 3 * ng + length ds) h) in
       record { answer = rw e; words = rw e }
@@ -90,7 +96,7 @@ module _ {width step : ℕ} {ds : List ℕ} {seen : List Bool} {n nb ng : ℕ} (
             pub plan_same_length : length plan₄ ≡ length plan
             plan_same_length = x.len ∙ w.len ∙ v.len ∙ u.len
 
-            pub plan_written : WordsWritten (babies_of seen n step) 65536 width ds plan plan₄ (Is nb ng (length ds))
+            pub plan_written : WordsWritten (babies_of seen n step) 65536 width ds plan plan₄ (Ok (record { babies = nb; giants = ng; diagonals = length ds }))
             unfolding words_with
             plan_written =
                 let e : ltb (length plan) (length (words_with (babies_of seen n step) 65536 width ds)) ≡ false = rw plan_length (le-ltb (length plan) (nb + 3 * ng + length ds) h) in
@@ -139,7 +145,7 @@ module _ {slots width : ℕ} {ds : List ℕ} (a : Range slots) (w : Range width)
       ∙ ap (λ (bs : List ℕ). below (λ k. among k bs) n) e
       ∙ rising_below n (babies slots width ds) (babies_rise slots width ds) (rw e at (multiples_low m))
 
-  pub words_at : {bs cs old new : List ℕ} {r : PlanAnswer} → bs ≡ cs → WordsWritten bs 65536 width ds old new r → WordsWritten cs slots width ds old new r
+  pub words_at : {bs cs old new : List ℕ} {r : Result PlanSizes Refusal} → bs ≡ cs → WordsWritten bs 65536 width ds old new r → WordsWritten cs slots width ds old new r
   words_at {cs} e v =
       let f = words_bound p 65536 a.high cs in
       let g = giants_bound p 65536 a.high in
@@ -165,33 +171,17 @@ module _ {slots width : ℕ} {ds : List ℕ} (a : Range slots) (w : Range width)
 
 -- ---- the calls
 
--- the diagonals stand in front of the list
-pub part_inside : {slots : ℕ} {zs : List ℤ} {old new : List ℕ} {r : ℕ} → Sorted slots zs old new r → r ≤ length new
-unfolding in_front
-part_inside {slots} {zs} {old} s = omega (arith, s.count, ap length s.words, length-append (diagonals_of slots zs) (drop (length (diagonals_of slots zs)) old))
+module _ {slots : ℕ} {s : LinearTransformationStrategy} {r : Result Unit Refusal} (j : PlanJudged slots s r) (zs : List ℤ) {old : List ℕ} where
+  pub index_refused : {x : Refusal} → r ≡ Err x → PlanWritten slots s zs old old (Err x)
+  index_refused n =
+      let q = still_refused (plan_refusals slots s) ((ltb (length old) (length (plan_words slots s (diagonals_of slots zs))), Room) ∷ []) (some_of j.answer n) in
+      record { answer = rw q; words = rw q }
 
-pub diagonals_part : {slots : ℕ} {zs : List ℤ} {old new : List ℕ} {r : ℕ} → Sorted slots zs old new r → take r new ≡ diagonals_of slots zs
-unfolding in_front
-diagonals_part {slots} {zs} {old} {r} s = rw s.words (take_at (diagonals_of slots zs) (drop (length (diagonals_of slots zs)) old) r (sym s.count))
-
--- what holds of the part holds of the diagonals
-pub named_written : {slots : ℕ} (s : LinearTransformationStrategy) {part ds old new : List ℕ} {r : PlanAnswer} → part ≡ ds → WordsWritten (plan_babies slots s part) slots (width_of s) part old new r → WordsWritten (plan_babies slots s ds) slots (width_of s) ds old new r
-named_written s e w = rw (← e) w
-
-index_refused_by : (slots : ℕ) (zs : List ℤ) (old : List ℕ) (s : LinearTransformationStrategy) (r : ℕ) → r ≡ first_refusal (plan_refusals slots s) → (r ≡ 0 → ⊥) → PlanWritten slots s zs old old (Refused r)
-index_refused_by slots zs old s zero e n = absurd (n refl)
-index_refused_by slots zs old s (suc r) e n =
-    let q : plan_refusal slots s zs old ≡ suc r = first_refused (plan_refusals slots s) ((ltb (length old) (length (plan_words slots s (diagonals_of slots zs))), 12) ∷ []) (λ h. n (e ∙ h)) ∙ sym e in
-    record { answer = rw q; words = rw q }
-
-module _ {slots : ℕ} {s : LinearTransformationStrategy} {r : ℕ} (j : PlanJudged slots s r) (zs : List ℤ) {old : List ℕ} where
-  pub index_refused : (r ≡ 0 → ⊥) → PlanWritten slots s zs old old (Refused r)
-  index_refused n = index_refused_by slots zs old s r j.answer n
-
-  pub index_later : {new : List ℕ} {a : PlanAnswer} → r ≡ 0 → WordsWritten (plan_babies slots s (diagonals_of slots zs)) slots (width_of s) (diagonals_of slots zs) old new a → PlanWritten slots s zs old new a
+  pub index_later : {ds new : List ℕ} {a : Result PlanSizes Refusal} → r ≡ Ok tt → ds ≡ diagonals_of slots zs → WordsWritten (plan_babies slots s ds) slots (width_of s) ds old new a → PlanWritten slots s zs old new a
   unfolding plan_words
-  index_later e w =
-      let q : plan_refusal slots s zs old ≡ first_refusal ((ltb (length old) (length (plan_words slots s (diagonals_of slots zs))), 12) ∷ []) = first_later (plan_refusals slots s) ((ltb (length old) (length (plan_words slots s (diagonals_of slots zs))), 12) ∷ []) (suc-ne-zero 0, (suc-ne-zero 2, tt)) (sym j.answer ∙ e) in
+  index_later {new = new} {a = a} e d v =
+      let w : WordsWritten (plan_babies slots s (diagonals_of slots zs)) slots (width_of s) (diagonals_of slots zs) old new a = rw (← d) v in
+      let q : plan_refusal slots s zs old ≡ first_refusal ((ltb (length old) (length (plan_words slots s (diagonals_of slots zs))), Room) ∷ []) = first_later (plan_refusals slots s) ((ltb (length old) (length (plan_words slots s (diagonals_of slots zs))), Room) ∷ []) (none_of j.answer e) in
       record { answer = rw q w.answer; words = rw q w.words }
 
 -- the table of the babies' multiples may be closed

@@ -7,21 +7,29 @@ use mathlib.Core.List.{List, [], ◌∷◌, map, map-append, append_assoc}
 use mathlib.Core.Logic.{◌⊎◌, inl, inr}
 use native.Mathlib.Numerals.{add-one}
 use native.Mathlib.Nat.{div-le_self, zero-div, zero-add, zero-mod, mod-le, mod-eq_of_lt, mod-add-mod, mul-mod_left, eq-or-lt_of_le}
-use native.Mathlib.Decide.{ℕ_discrete}
 use native.Mathlib.Omega.{arith}
-use lib.Dec.{eqb}
+use lib.Dec.{eqb, ltb}
 use lib.ListN.{length, get_or, set, take, length-set, length-append, take-append-drop, drop}
 use lib.Seq.{take-suc, take_all}
+use Rattle.std.specs.Prelude.{Option, Some, None}
+use Rattle.std.specs.Iterator.{IsFinite, at_most, Yields}
+use Rattle.linear_transformation.specs.declared.plan.Run.{Run}
+use Rattle.linear_transformation.specs.declared.plan.Runs.{Runs}
+use Rattle.std.specs.List.{take_while, prefix_len}
+use Rattle.std.proofs.lemmas.Bool.{ltb-true, ltb-false}
+use Rattle.std.proofs.lemmas.List.{get_or-drop, length-drop}
+use Rattle.std.proofs.lemmas.List.Sums.{prefix_len-le-length, prefix_len_passes, prefix_len_stops}
+use Rattle.std.proofs.lemmas.List.Folds.{length-prefix_len}
 use Rattle.ring.specs.Searches.{or_else}
 use Rattle.ring.specs.Divisors.{gcd_of, gcd_all}
 use Rattle.ring.specs.Marks.{marks, Unmarked}
 use Rattle.ring.specs.Laws.Lists.{each_at, join_append}
 use Rattle.linear_transformation.specs.Plans.{baby_of, giant_of, giants, plan_pairs, plan_index}
 use Rattle.ring.specs.Lists.{some}
-use Rattle.linear_transformation.specs.Steps.Plans.{Writing, Diagonals, BabiesMarked, StepIs, RunEnd, RunFrom}
+use Rattle.linear_transformation.specs.Steps.Plans.{Writing, Diagonals, BabiesMarked, StepIs, RunEnd, RunFrom, NextRun}
 use Rattle.ring.specs.Laws.Members.{some_append}
 use Rattle.linear_transformation.specs.Laws.Plans.{index_babies, giant_baby, giant_le, baby_lt, giant_times}
-use Rattle.linear_transformation.specs.Laws.Runs.{planned_length, pairs_as_words, giants_none, pairs_none, pairs_words_length, multiples_are, Walked, walked_none, walked_more, walked_giants, walked_pairs, giants_part, giants_few}
+use Rattle.linear_transformation.specs.Laws.Runs.{planned_length, pairs_as_words, giants_none, pairs_none, pairs_words_length, multiples_are, Walked, walked_none, walked_more, walked_giants, walked_pairs, giants_part}
 use Rattle.linear_transformation.specs.Laws.CommonDivisors.{gcd_all_one, gcd_all_snoc, gcd_low, baby_step_is, or_else_low, or_else_some}
 use Rattle.linear_transformation.proofs.Writings.{writing_none, writing_more, mark_more}
 
@@ -64,28 +72,23 @@ module _ {ds : List ℕ} {width start : ℕ} {old new : List ℕ} {to base t : �
 
 -- ---- a run
 
--- the diagonals from `start` up to `at` are below the edge
-pub record Running (ds : List ℕ) (start edge at : ℕ) : Type 0 where
-  pub order : start ≤ at
-  pub inside : at ≤ length ds
-  pub before : (u : ℕ) → start ≤ u → u < at → get_or ds u 0 < edge
+-- the diagonals from `start` on that are below the edge are a run
+pub run_counted : (ds : List ℕ) (start edge : ℕ) → start ≤ length ds → RunEnd ds start edge (start + length (take_while (λ k. ltb k edge) (drop start ds)))
+run_counted ds start edge l =
+    let p : ℕ → Bool = λ k. ltb k edge in
+    let n : ℕ = prefix_len p (drop start ds) in
+    let m : n ≤ length (drop start ds) = prefix_len-le-length p (drop start ds) in
+    rw (length-prefix_len p (drop start ds))
+    (record {
+      order = omega arith;
+      inside = omega (arith, m, length-drop start ds);
+      before = λ u a b. let e : start + (u - start) ≡ u = omega arith in rw (← e) (ltb-true _ _ (sym (ap p (get_or-drop start ds (u - start) 0)) ∙ prefix_len_passes p (drop start ds) (u - start) 0 (omega arith)));
+      behind = λ h. ltb-false _ _ (sym (ap p (get_or-drop start ds n 0)) ∙ prefix_len_stops p (drop start ds) 0 (omega (arith, h, length-drop start ds)));
+    })
 
-pub running_none : (ds : List ℕ) (start edge : ℕ) → start ≤ length ds → Running ds start edge start
-running_none ds start edge l = record { order = omega arith; inside = l; before = λ u a b. omega arith }
-
-module _ {ds : List ℕ} {start edge at : ℕ} (s : Running ds start edge at) where
-  pub running_more : at < length ds → get_or ds at 0 < edge → Running ds start edge (at + 1)
-  running_more l h = record { order = omega (arith, s.order); inside = omega arith; before = λ u a b. by u a b (ℕ_discrete u at) }
-    where
-      by : (u : ℕ) → start ≤ u → u < at + 1 → Dec (u ≡ at) → get_or ds u 0 < edge
-      by u a b (yes e) = rw e h
-      by u a b (no n) = s.before u a (omega arith)
-
-  pub running_stop : at < length ds → edge ≤ get_or ds at 0 → RunEnd ds start edge at
-  running_stop l h = record { order = s.order; inside = s.inside; before = s.before; behind = λ _. h }
-
-  pub running_done : length ds ≤ at → RunEnd ds start edge at
-  running_done h = record { order = s.order; inside = s.inside; before = s.before; behind = λ l. omega arith }
+-- the same, as a slice's range gives them
+pub run_passed : (ds : List ℕ) (start edge : ℕ) → start ≤ length ds → RunEnd ds start edge (start + length (take_while (λ k. ltb k edge) (take (length ds - start) (drop start ds))))
+run_passed ds start edge l = rw (take_all (length ds - start) (drop start ds) (omega (arith, length-drop start ds))) (run_counted ds start edge l)
 
 -- the giant of a diagonal, and the run behind it
 module _ {width : ℕ} {ds : List ℕ} (g : Diagonals width ds) {at : ℕ} (l : at < length ds) where
@@ -103,6 +106,47 @@ module _ {width : ℕ} {ds : List ℕ} (g : Diagonals width ds) {at : ℕ} (l : 
           let b : giant + width ≤ get_or ds at 0 = rw (← e) at (r.behind (omega arith)) in
           omega (arith, q, giant_baby width (get_or ds at 0), baby_lt width (get_or ds at 0) g.planned.positive, b)
       by (inr h) = h
+
+-- ---- the runs of a list
+
+-- the iterator goes over the runs of these diagonals
+pub record Stands (width : ℕ) (ds : List ℕ) (s : Runs) : Type 0 where
+  pub list_is : s.ds.now ≡ ds
+  pub width_is : s.width ≡ width
+
+-- and may be called
+abbrev pub Going : ℕ → List ℕ → Runs → Type 0
+Going width ds s = Diagonals s.width s.ds.now × IsFinite (at_most (length s.ds.now - s.at)) × Stands width ds s
+
+module _ {width : ℕ} {ds : List ℕ} {s t : Runs} where
+  pub going_first : Diagonals width ds → (t.ds.now ≡ ds) × (t.width ≡ width) × (t.at ≡ 0) → s ≡ t → Going width ds s × (s.at ≡ 0)
+  going_first g b e = rw e ((rw (b.0, b.1) g, tt, record { list_is = b.0; width_is = b.1 }), b.2)
+
+  pub stands_on : {r : Option Run} → Stands width ds s → NextRun s r t → Stands width ds t
+  stands_on h n = record { list_is = n.list_stays ∙ h.list_is; width_is = n.width_stays ∙ h.width_is }
+
+  pub going_on : {x : Run} → Going width ds s → NextRun s (Some x) t → Going width ds t
+  going_on i n = (rw (n.list_stays, n.width_stays) i.0, tt, stands_on i.2 n)
+
+  pub run_inside : {x : Run} → Stands width ds s → NextRun s (Some x) t → s.at < length ds
+  run_inside h n = rw (← h.list_is) n.run.0
+
+  pub run_now : {x : Run} → Stands width ds s → NextRun s (Some x) t → RunFrom width ds s.at x.giant t.at
+  run_now h n = rw (← h.list_is, ← h.width_is) n.run.3
+
+  pub runs_end : Stands width ds s → NextRun s None t → length ds ≤ s.at
+  runs_end h n = rw (← h.list_is) n.run.0
+
+-- where a diagonal is found, its run
+module _ {width : ℕ} {ds : List ℕ} {at k giant : ℕ} (g : Diagonals width ds) (f : (at < length ds) × ((d : ℕ) → k ≡ get_or ds at d)) (q : giant ≡ giant_of width k) where
+  giant_found : giant ≡ giant_of width (get_or ds at 0)
+  giant_found = q ∙ ap (giant_of width) (f.1 0)
+
+  pub found_low : giant + width < 65536 + 65536
+  found_low = edge_low g f.0 giant_found
+
+  pub found_run : {end : ℕ} → RunEnd ds at (giant + width) end → RunFrom width ds at giant end
+  found_run r = run_is g f.0 giant_found r
 
 -- ---- babies
 
@@ -157,9 +201,6 @@ pub numbering_none : (width : ℕ) (ds : List ℕ) → Numbering width ds 0 0
 numbering_none width ds = record { walked = walked_none width ds; so_far = sym (ap length (giants_none 65536 width)) }
 
 module _ {width : ℕ} {ds : List ℕ} {count at : ℕ} (s : Numbering width ds count at) where
-  pub numbering_small : count ≤ 65536
-  numbering_small = omega (arith, s.so_far, giants_few 65536 width (take at ds))
-
   pub numbering_more : {giant end : ℕ} → Diagonals width ds → at < length ds → RunFrom width ds at giant end → Numbering width ds (count + 1) end
   numbering_more {giant} g l r =
       record {
@@ -169,6 +210,12 @@ module _ {width : ℕ} {ds : List ℕ} {count at : ℕ} (s : Numbering width ds 
 
   pub numbering_done : length ds ≤ at → count ≡ length (giants 65536 width ds)
   numbering_done h = s.so_far ∙ ap (λ (ks : List ℕ). length (giants 65536 width ks)) (take_all at ds h)
+
+-- the runs are as many as the giants
+pub runs_counted : {width : ℕ} {ds : List ℕ} (xs : List Run) {n : ℕ} {s t u : Runs} → Diagonals width ds → Stands width ds s → Numbering width ds n s.at → Yields NextRun s xs t → NextRun t None u → n + length xs ≡ length (giants 65536 width ds)
+runs_counted [] {n} {u = u} g h i y z = omega (arith, numbering_done i (runs_end {t = u} h (rw y z)))
+runs_counted (x ∷ xs) {n} g h i y z =
+    omega (arith, runs_counted xs g (stands_on h y.1) (numbering_more i g (run_inside h y.1) (run_now h y.1)) y.2 z)
 
 -- they are written
 pub record Heading (width : ℕ) (ds : List ℕ) (start : ℕ) (old new : List ℕ) (to at : ℕ) : Type 0 where

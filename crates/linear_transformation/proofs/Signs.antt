@@ -4,7 +4,12 @@ use Prim.Native.Nat.{ℕ, zero, suc, ◌+◌, ◌*◌, ◌^◌, ◌≤◌, ◌<�
 use mathlib.Core.Path.{◌≡◌, refl, ap, ◌∙◌}
 use native.Mathlib.Nat.{mul-le-mul, le_trans}
 use native.Mathlib.Omega.{arith}
-use borrow.Author.Tests.{eq-eqb, ne_eqb}
+use borrow.Author.Tests.{eq-eqb, ne_eqb, lt-ltb, le-ltb}
+use Rattle.std.specs.Prelude.{max, ◌⊎◌, ◌≢◌}
+use Rattle.std.specs.Ordering.{ord_max, nat_cmp}
+use Rattle.std.proofs.Common.{inl, inr, ⊎_elim}
+use Rattle.std.proofs.Math.Decide.{ℕ_discrete}
+use Rattle.ring.specs.Laws.Searches.{lt_or_ge}
 use lib.Pow.{pow_mono}
 use lib.IntN.{ℤ, pos, negsuc, neg_ℤ, ◌-ℤ◌, ◌*ℤ◌}
 use lib.Signed.{mag}
@@ -66,3 +71,15 @@ module _ (b i p : ℕ) (z : b ≤ 16) (l : i < b) (q : p ≡ 2 ^ i) where
   level_other n =
       let f : to_z w64 p ≡ pos p = natural_is p power_low in
       record { is = rw (ne_eqb (suc i) b (λ e. n (omega arith)), ← q) (ap (λ (y : ℤ). record { 0 = y }) f); small = rw f power_low }
+
+-- the larger of two numbers, as the library's `max` compares them
+pub max_is : (a b : ℕ) → ord_max nat_cmp a b ≡ max a b
+max_is a b =
+    ⊎_elim
+    (λ (h : b < a). let e : a ≡ max a b = omega arith in rw (lt-ltb b a h) e)
+    (λ (h : a ≤ b). let e : b ≡ max a b = omega arith in ⊎_elim (λ (q : b ≡ a). rw (le-ltb b a h, eq-eqb b a q) e) (λ (q : b ≢ a). rw (le-ltb b a h, ne_eqb b a q) e) (equal b a (ℕ_discrete b a)))
+    (lt_or_ge b a)
+  where
+    equal : (x y : ℕ) → Dec (x ≡ y) → (x ≡ y) ⊎ (x ≢ y)
+    equal x y (yes q) = inl q
+    equal x y (no q) = inr q

@@ -1,11 +1,11 @@
 -- The calls about stored offsets: the walk that tests them, refusals, plans and trees.
 -- Assumes nothing.
-use Prim.Native.Nat.{ℕ, zero, suc, ◌+◌, ◌-◌, ◌≤◌, ◌<◌, min}
-use mathlib.Core.Path.{◌≡◌, refl, sym, ap, ◌∙◌}
+use Prim.Native.Nat.{ℕ, ◌+◌, ◌-◌, ◌≤◌, ◌<◌, min}
+use mathlib.Core.Path.{◌≡◌, refl, sym, ap, ◌∙◌, subst}
 use mathlib.Core.Bool.{Bool, true, false, true≢false}
 use mathlib.Core.List.{List, [], ◌∷◌, ◌++◌}
 use mathlib.Core.Logic.{⊎_elim}
-use native.Mathlib.Nat.{suc-ne-zero, not-suc-le-zero, eq-or-lt_of_le}
+use native.Mathlib.Nat.{not-suc-le-zero, eq-or-lt_of_le}
 use native.Mathlib.Numerals.{add-one}
 use native.Mathlib.Omega.{arith}
 use borrow.Author.Tests.{le-leb, lt-leb, lt-ltb, le-ltb}
@@ -13,29 +13,33 @@ use lib.Dec.{ltb}
 use lib.ListN.{length, get_or, take, drop, length-drop, drop_of_length-le}
 use lib.Seq.{take_all, take-nil}
 use Rattle.ring.specs.Vectors.{in_front}
+use Rattle.std.specs.Prelude.{None, Some, Result, Ok, Err}
+use Rattle.ring.specs.declared.refusal.Refusal.{Refusal}
+use Rattle.ring.specs.declared.refusal.Refusal.TheVariants.{Slots, NotAMap, OutOfRange, Room}
 use Rattle.ring.specs.Refusals.{first_refusal, outside}
+use Rattle.ring.specs.Laws.Answers.{no_refused, when_refused}
 use Rattle.ring.specs.Laws.Searches.{both, every_all, every_fails, lt_or_ge}
-use Rattle.ring.specs.Laws.Refusals.{first_refused, first_later}
+use Rattle.ring.specs.Laws.Refusals.{first_later}
 use Rattle.linear_transformation.specs.declared.LinearTransformationStrategy.{LinearTransformationStrategy}
 use Rattle.linear_transformation.specs.declared.LinearTransformationStrategy.TheVariants.{Bsgs, BsgsPowersOfTwo, Direct}
-use Rattle.linear_transformation.specs.declared.plan.PlanAnswer.{PlanAnswer}
-use Rattle.linear_transformation.specs.declared.plan.PlanAnswer.TheVariants as Planned
+use Rattle.linear_transformation.specs.declared.plan.PlanSizes.{PlanSizes}
 use Rattle.linear_transformation.specs.declared.records.PairRecord.{PairRecord}
-use Rattle.linear_transformation.specs.declared.rotations.TreeAnswer.{TreeAnswer}
-use Rattle.linear_transformation.specs.declared.rotations.TreeAnswer.TheVariants as Grown
+use Rattle.linear_transformation.specs.declared.rotations.TreeSizes.{TreeSizes}
 use Rattle.linear_transformation.specs.Strategies.{width_outside}
 use Rattle.linear_transformation.specs.Plans.{width_of}
-use Rattle.linear_transformation.specs.Trees.{Tree, tree_records, tree_switches}
+use Rattle.linear_transformation.specs.Trees.{Tree, tree_switches}
 use Rattle.linear_transformation.specs.Schedules.{plan_babies, plan_words, plan_tree}
-use Rattle.linear_transformation.specs.Stored.{least_at, offset_fits, offsets_rise, stored_refusals, pair_count, stored_plan_refusal, StoredPlanWritten, RecordsLeft, PlanRecordsWritten}
+use Rattle.linear_transformation.specs.Stored.{least_at, offset_fits, offsets_rise, stored_refusals, pair_count, stored_plan_refusal, StoredPlanWritten, PlanRecordsWritten}
+use Rattle.linear_transformation.specs.Calls.{tree_sizes}
 use Rattle.linear_transformation.specs.Steps.Plans.{WordsWritten}
 use Rattle.linear_transformation.specs.Steps.Trees.{Planted, heap_switches}
-use Rattle.linear_transformation.specs.Steps.Keys.{Sizable, giants_of}
-use Rattle.linear_transformation.specs.Steps.Stored.{StoredJudged, turns_each, TreePlanted, PlanGrown}
-use Rattle.linear_transformation.specs.Steps.Records.{bits_in}
+use Rattle.linear_transformation.specs.Steps.Keys.{turns_each, Sizable, giants_of}
+use Rattle.linear_transformation.specs.Steps.Stored.{StoredJudged}
+use Rattle.linear_transformation.specs.Steps.Records.{heap_records, room_refusal, Grown}
 use Rattle.linear_transformation.specs.Laws.Plans.{width_positive}
 use Rattle.linear_transformation.specs.Laws.Stored.{rise_distinct}
-use Rattle.linear_transformation.proofs.Growth.{sizes, asked_refused, asked_none, asked_is, refused_front, none_front}
+use Rattle.linear_transformation.proofs.Judgings.{none_of, some_of, still_refused}
+use Rattle.linear_transformation.proofs.Growth.{sizes, grown_accepted, grown_refused, records_told, records_refused}
 use Rattle.linear_transformation.proofs.PlanAnswers.{in_range_lem}
 use Rattle.linear_transformation.proofs.KeyAnswers.{plan_tree_lem}
 
@@ -55,7 +59,10 @@ module _ {slots : ℕ} {ks : List ℕ} {next t : ℕ} (s : Ascending slots ks ne
   unfolding offsets_rise
   ascending_done h = sym (every_all (offset_fits slots ks) (length ks) (λ u l. s.so_far u (omega arith)))
 
-  module _ (l : t < length ks) {k : ℕ} (e : k ≡ get_or ks t 0) where
+  module _ (l : t < length ks) where
+    abbrev k : ℕ
+    k = get_or ks t 0
+
     pub ascending_low : k < next → false ≡ offsets_rise slots ks
     unfolding offsets_rise
     ascending_low h = sym (every_fails (offset_fits slots ks) (length ks) t l (rw (lt-leb (least_at ks t) (get_or ks t 0) (omega (arith, s.next_is)))))
@@ -80,16 +87,16 @@ module _ {slots : ℕ} {ks : List ℕ} {next t : ℕ} (s : Ascending slots ks ne
 -- ---- refusals
 
 module _ {slots : ℕ} {s : LinearTransformationStrategy} {ks : List ℕ} where
-  pub stored_slots : outside slots ≡ true → StoredJudged slots s ks 1
-  stored_slots e = record { answer = rw e; accepted = λ h. absurd (suc-ne-zero 0 h) }
+  pub stored_slots : outside slots ≡ true → StoredJudged slots s ks (Err Slots)
+  stored_slots e = record { answer = rw e; accepted = λ h. no_refused h }
 
-  pub stored_offsets : outside slots ≡ false → offsets_rise slots ks ≡ false → StoredJudged slots s ks 2
-  stored_offsets e f = record { answer = rw (e, f); accepted = λ h. absurd (suc-ne-zero 1 h) }
+  pub stored_offsets : outside slots ≡ false → offsets_rise slots ks ≡ false → StoredJudged slots s ks (Err NotAMap)
+  stored_offsets e f = record { answer = rw (e, f); accepted = λ h. no_refused h }
 
-  pub stored_width : outside slots ≡ false → offsets_rise slots ks ≡ true → width_outside s ≡ true → StoredJudged slots s ks 3
-  stored_width e f g = record { answer = rw (e, f, g); accepted = λ h. absurd (suc-ne-zero 2 h) }
+  pub stored_width : outside slots ≡ false → offsets_rise slots ks ≡ true → width_outside s ≡ true → StoredJudged slots s ks (Err OutOfRange)
+  stored_width e f g = record { answer = rw (e, f, g); accepted = λ h. no_refused h }
 
-  pub stored_right : outside slots ≡ false → offsets_rise slots ks ≡ true → width_outside s ≡ false → StoredJudged slots s ks 0
+  pub stored_right : outside slots ≡ false → offsets_rise slots ks ≡ true → width_outside s ≡ false → StoredJudged slots s ks (Ok tt)
   stored_right e f g =
       let d = rise_distinct slots ks f in
       record {
@@ -97,73 +104,58 @@ module _ {slots : ℕ} {s : LinearTransformationStrategy} {ks : List ℕ} where
         accepted = λ h. record { slots_in_fact = in_range_lem e; width_in = g; planned = record { rises = d.rises; low = d.low; positive = width_positive s g } };
       }
 
-  module _ {r : ℕ} (j : StoredJudged slots s ks r) (ds : List (Bool × ℕ)) where
-    pub stored_first : (r ≡ 0 → ⊥) → first_refusal (stored_refusals slots s ks ++ ds) ≡ r
-    stored_first n = first_refused (stored_refusals slots s ks) ds (λ h. n (j.answer ∙ h)) ∙ sym j.answer
+  module _ {r : Result Unit Refusal} (j : StoredJudged slots s ks r) (ds : List (Bool × Refusal)) where
+    pub stored_first : {x : Refusal} → r ≡ Err x → first_refusal (stored_refusals slots s ks ++ ds) ≡ Some x
+    stored_first n = still_refused (stored_refusals slots s ks) ds (some_of j.answer n)
 
-    pub stored_later : r ≡ 0 → first_refusal (stored_refusals slots s ks ++ ds) ≡ first_refusal ds
-    stored_later e = first_later (stored_refusals slots s ks) ds (suc-ne-zero 0, (suc-ne-zero 1, (suc-ne-zero 2, tt))) (sym j.answer ∙ e)
+    pub stored_later : r ≡ Ok tt → first_refusal (stored_refusals slots s ks ++ ds) ≡ first_refusal ds
+    stored_later e = first_later (stored_refusals slots s ks) ds (none_of j.answer e)
 
 -- ---- plans
 
-plan_refused_by : (slots : ℕ) (s : LinearTransformationStrategy) (ks old : List ℕ) (r : ℕ) → stored_plan_refusal slots s ks old ≡ r → (r ≡ 0 → ⊥) → StoredPlanWritten slots s ks old old (Planned.Refused r)
-plan_refused_by slots s ks old zero q n = absurd (n refl)
-plan_refused_by slots s ks old (suc r) q n = record { answer = rw q; words = rw q }
+module _ {slots : ℕ} {s : LinearTransformationStrategy} {ks : List ℕ} {r : Result Unit Refusal} (j : StoredJudged slots s ks r) {old : List ℕ} where
+  pub stored_plan_refused : {x : Refusal} → r ≡ Err x → StoredPlanWritten slots s ks old old (Err x)
+  stored_plan_refused n =
+      let q = stored_first j ((ltb (length old) (length (plan_words slots s ks)), Room) ∷ []) n in
+      record { answer = rw q; words = rw q }
 
-module _ {slots : ℕ} {s : LinearTransformationStrategy} {ks : List ℕ} {r : ℕ} (j : StoredJudged slots s ks r) {old : List ℕ} where
-  pub stored_plan_refused : (r ≡ 0 → ⊥) → StoredPlanWritten slots s ks old old (Planned.Refused r)
-  stored_plan_refused n = plan_refused_by slots s ks old r (stored_first j ((ltb (length old) (length (plan_words slots s ks)), 12) ∷ []) n) n
-
-  pub stored_plan_written : {new : List ℕ} {a : PlanAnswer} → r ≡ 0 → WordsWritten (plan_babies slots s ks) slots (width_of s) ks old new a → StoredPlanWritten slots s ks old new a
+  pub stored_plan_written : {new : List ℕ} {a : Result PlanSizes Refusal} → r ≡ Ok tt → WordsWritten (plan_babies slots s ks) slots (width_of s) ks old new a → StoredPlanWritten slots s ks old new a
   unfolding plan_words
   stored_plan_written e w =
-      let q : stored_plan_refusal slots s ks old ≡ first_refusal ((ltb (length old) (length (plan_words slots s ks)), 12) ∷ []) = stored_later j ((ltb (length old) (length (plan_words slots s ks)), 12) ∷ []) e in
+      let q : stored_plan_refusal slots s ks old ≡ first_refusal ((ltb (length old) (length (plan_words slots s ks)), Room) ∷ []) = stored_later j ((ltb (length old) (length (plan_words slots s ks)), Room) ∷ []) e in
       record { answer = rw q w.answer; words = rw q w.words }
 
 -- ---- the records of a plan's tree
 
-left_none : (e : ℕ) (t : Tree) (ps : List PairRecord) → (e ≡ 0 → ⊥) → RecordsLeft e t ps ps (Grown.Refused e)
-left_none zero t ps n = absurd (n refl)
-left_none (suc e) t ps n = record { answer = refl; records_are = refl }
-
 module _ {slots width : ℕ} {ds : List ℕ} (z : Sizable slots width ds) {heap : List Bool} {bits count : ℕ} (p : Planted slots width (giants_of width ds) heap bits) (c : count ≡ heap_switches bits heap bits) where
-  count_is : count ≡ pair_count slots (BsgsPowersOfTwo width) ds
-  unfolding pair_count
+  count_is : count ≡ tree_switches (plan_tree slots width ds)
   count_is = (sizes p c).switches ∙ ap tree_switches (plan_tree_lem z)
 
-  pub room_short : {room : ℕ} → room < count → TreePlanted slots width ds room heap (Grown.Refused 12)
-  room_short {room} l =
-      record {
-        written = λ ps e. rw (e, ← count_is, lt-ltb _ _ l, refused_front 12 heap ps) (left_none 12 (plan_tree slots width ds) ps (suc-ne-zero 11));
-        asked = asked_refused 12 heap room;
-      }
+  pub room_short : {room : ℕ} → room < count → Grown (room_refusal (plan_tree slots width ds) room) (plan_tree slots width ds) room heap (Err Room)
+  room_short l = grown_refused (rw (← count_is, lt-ltb _ _ l))
 
-  pub tree_planted : {room : ℕ} → count ≤ room → TreePlanted slots width ds room heap (Grown.Is bits count)
-  unfolding bits_in
+  pub tree_planted : {room : ℕ} → count ≤ room → Grown (room_refusal (plan_tree slots width ds) room) (plan_tree slots width ds) room heap (Ok (record { bits = bits; pairs = count }))
   tree_planted {room} l =
-      let a = sizes p c in
-      record {
-        written = λ ps e. rw (e, ← count_is, le-ltb _ _ l) (record { answer = rw (← plan_tree_lem z, a.bits, a.switches) refl; records_are = ap (λ (w : List PairRecord). in_front w ps) (a.records_are ∙ ap tree_records (plan_tree_lem z)) });
-        asked = asked_is a room l;
-      }
+      let q : room_refusal (plan_tree slots width ds) room ≡ None = rw (← count_is, le-ltb _ _ l) in
+      subst (λ (t : Tree). Grown (room_refusal (plan_tree slots width ds) room) t room heap (Ok (record { bits = bits; pairs = count }))) (plan_tree_lem z) (grown_accepted (sizes p c) l q)
 
-module _ {slots w : ℕ} {gs : List ℕ} {r : ℕ} (j : StoredJudged slots (BsgsPowersOfTwo w) gs r) {room : ℕ} {heap : List Bool} where
-  pub plan_refused : (r ≡ 0 → ⊥) → PlanGrown slots (BsgsPowersOfTwo w) gs room heap (Grown.Refused r)
-  plan_refused n = record { written = λ ps e. rw (stored_first j ((ltb (length ps) (pair_count slots (BsgsPowersOfTwo w) gs), 12) ∷ []) n, refused_front r heap ps) (left_none r (plan_tree slots w gs) ps n); asked = asked_refused r heap room }
+module _ {slots w : ℕ} {gs : List ℕ} {r : Result Unit Refusal} (j : StoredJudged slots (BsgsPowersOfTwo w) gs r) (ps : List PairRecord) where
+  pub plan_refused : {x : Refusal} → r ≡ Err x → PlanRecordsWritten slots (BsgsPowersOfTwo w) gs ps ps (Err x)
+  plan_refused n = records_refused (stored_first j ((ltb (length ps) (pair_count slots (BsgsPowersOfTwo w) gs), Room) ∷ []) n) ps
 
-  pub plan_grown : {a : TreeAnswer} → r ≡ 0 → TreePlanted slots w gs room heap a → PlanGrown slots (BsgsPowersOfTwo w) gs room heap a
-  plan_grown e t = record { written = λ ps l. rw (stored_later j ((ltb (length ps) (pair_count slots (BsgsPowersOfTwo w) gs), 12) ∷ []) e) (t.written ps l); asked = t.asked }
+  module _ (e : r ≡ Ok tt) {heap : List Bool} {a : Result TreeSizes Refusal} (t : Grown (room_refusal (plan_tree slots w gs) (length ps)) (plan_tree slots w gs) (length ps) heap a) where
+    later : first_refusal (stored_refusals slots (BsgsPowersOfTwo w) gs ++ (ltb (length ps) (pair_count slots (BsgsPowersOfTwo w) gs), Room) ∷ []) ≡ room_refusal (plan_tree slots w gs) (length ps)
+    unfolding pair_count
+    later = stored_later j ((ltb (length ps) (pair_count slots (BsgsPowersOfTwo w) gs), Room) ∷ []) e
 
--- per rotation
-module _ {slots : ℕ} {gs : List ℕ} {room : ℕ} {heap : List Bool} where
-  pub no_plan_width : {w : ℕ} → PlanGrown slots (Bsgs w) gs room heap Grown.NoTree
-  no_plan_width = record { written = λ ps e. (refl, none_front heap ps); asked = asked_none heap room }
+    pub plan_short : {x : Refusal} → a ≡ Err x → PlanRecordsWritten slots (BsgsPowersOfTwo w) gs ps ps (Err x)
+    plan_short {x} h = rw later (records_refused (when_refused (room_refusal (plan_tree slots w gs) (length ps)) (tree_sizes (plan_tree slots w gs)) x (sym h ∙ t.answer)) ps)
 
-  pub no_plan_direct : PlanGrown slots Direct gs room heap Grown.NoTree
-  no_plan_direct = record { written = λ ps e. (refl, none_front heap ps); asked = asked_none heap room }
+    pub plan_told : {s : TreeSizes} {ps' : List PairRecord} → a ≡ Ok s → ps' ≡ in_front (heap_records s.bits heap) ps → PlanRecordsWritten slots (BsgsPowersOfTwo w) gs ps ps' (Ok (Some s))
+    plan_told h q = rw later (records_told t h q)
 
 -- where each rotation has its own key, nothing is written
-pub each_written : (slots : ℕ) (s : LinearTransformationStrategy) (gs : List ℕ) (ps : List PairRecord) → turns_each s ≡ true → PlanRecordsWritten slots s gs ps ps Grown.NoTree
+pub each_written : (slots : ℕ) (s : LinearTransformationStrategy) (gs : List ℕ) (ps : List PairRecord) → turns_each s ≡ true → PlanRecordsWritten slots s gs ps ps (Ok None)
 unfolding turns_each
 each_written slots (Bsgs w) gs ps e = (refl, refl)
 each_written slots (BsgsPowersOfTwo w) gs ps e = absurd (true≢false (sym e))

@@ -1,6 +1,6 @@
 -- The walks of `optimal_bsgs_giant_step`: what each loop keeps, a turn, and the end.
 -- Assumes nothing.
-use Prim.Native.Nat.{ℕ, zero, suc, ◌+◌, ◌-◌, ◌*◌, ◌/◌, ◌%◌, ◌≤◌, ◌<◌, ◌∣◌, max}
+use Prim.Native.Nat.{ℕ, zero, suc, ◌+◌, ◌-◌, ◌*◌, ◌/◌, ◌%◌, ◌≤◌, ◌<◌, ◌∣◌}
 use mathlib.Core.Path.{◌≡◌, refl, sym, ap, ◌∙◌}
 use mathlib.Core.Bool.{Bool, true, false, ◌||◌, true≢false, or-true, or-false}
 use mathlib.Core.List.{List, [], ◌∷◌, ◌++◌, append-nil}
@@ -12,23 +12,24 @@ use native.Mathlib.Omega.{arith}
 use borrow.Author.Tests.{eq-eqb, eqb-true, ne_eqb}
 use lib.Dec.{eqb}
 use lib.IntN.{ℤ}
-use lib.ListN.{length, get_or, set, take, drop, replicate, length-set, length-append, length-replicate}
-use lib.Seq.{take-suc, take_all, take-append_seam, length-take-le, get_or-set_same, get_or-set_other}
-use Rattle.ring.specs.Vectors.{in_front}
+use lib.ListN.{length, get_or, set, take, replicate, length-set, length-append, length-replicate}
+use lib.Seq.{take-suc, take_all, get_or-set_same, get_or-set_other}
 use Rattle.ring.specs.Lists.{Each, Rising, some, among}
 use Rattle.ring.specs.Searches.{only, below}
 use Rattle.ring.specs.Laws.Lists.{each_then, each_at, each_append}
 use Rattle.ring.specs.Laws.Searches.{lt_or_ge}
 use Rattle.ring.specs.Laws.Below.{below_le, below_ext}
+use Rattle.std.specs.Ordering.{ord_max, nat_cmp}
 use Rattle.linear_transformation.specs.Plans.{baby_of, giant_of, giants, Planned, Distinct}
 use Rattle.ring.specs.Residues.{diagonals_of}
 use Rattle.linear_transformation.specs.Widths.{gaps, smallest_gap, own_babies, cost, candidate, best_width}
-use Rattle.linear_transformation.specs.Steps.Plans.{Sorted, Diagonals}
+use Rattle.linear_transformation.specs.Steps.Plans.{Diagonals}
 use Rattle.linear_transformation.specs.Steps.Widths.{Choice, Fresh, Weighed, Narrowest}
 use Rattle.ring.specs.Laws.Members.{some_append, left, right, one_of, among_head, each_among}
 use Rattle.linear_transformation.specs.Laws.Plans.{planned, giant_baby, giant_le, baby_lt, giant_climbs}
 use Rattle.linear_transformation.specs.Laws.Runs.{Joins, giants_run}
 use Rattle.linear_transformation.specs.Laws.Widths.{distinct_planned, distinct_bound, LastLeast, last_first, last_yes, last_no, last_skip, gaps_positive, smallest_is, smallest_found, smallest_low, candidate_yes, candidate_is, best_is, cost_bound}
+use Rattle.linear_transformation.proofs.Signs.{max_is}
 
 -- ---- the smallest gap
 
@@ -392,13 +393,13 @@ module _ {ds : List ℕ} {width : ℕ} {stamps : List ℕ} {babies giant_count e
     unfolding giant_of baby_of
     weighing_same h = edging_old s.edging d l h
 
-  pub weighing_done : {r : ℕ} → length ds ≤ t → r ≡ max babies giant_count → Weighed ds width stamps r
+  pub weighing_done : {r : ℕ} → length ds ≤ t → r ≡ ord_max nat_cmp babies giant_count → Weighed ds width stamps r
   unfolding cost
   weighing_done h e =
       let all : take t ds ≡ ds = take_all t ds h in
       let b : babies ≡ length (own_babies 65536 width ds) = rw all at s.stamping.count in
       let g : giant_count ≡ length (giants 65536 width ds) = rw all at s.edging.count in
-      record { half = rw (e, b, g); size = s.stamping.size; low = s.stamping.low }
+      record { half = rw (e, max_is babies giant_count, b, g); size = s.stamping.size; low = s.stamping.low }
 
 -- ---- the multiples of the gap
 
@@ -494,19 +495,7 @@ module _ {slots : ℕ} {ds : List ℕ} {gap : ℕ} (c : Choice slots ds gap) whe
         last = λ v k u e. s.last.last v k (omega arith) e;
       }))
 
--- ---- the sorted list
+-- ---- the diagonals that indexes name
 
-module _ {slots : ℕ} {zs : List ℤ} {old new : List ℕ} {r : ℕ} (s : Sorted slots zs old new r) where
-  pub sorted_take : take r new ≡ diagonals_of slots zs
-  unfolding in_front
-  sorted_take = rw (s.words, s.count) (take-append_seam (diagonals_of slots zs) (drop (length (diagonals_of slots zs)) old))
-
-  pub sorted_room : r ≤ length new
-  unfolding in_front
-  sorted_room = omega (arith, s.count, ap length s.words, length-append (diagonals_of slots zs) (drop (length (diagonals_of slots zs)) old))
-
-  pub sorted_length : r ≡ length (take r new)
-  sorted_length = sym (length-take-le r new sorted_room)
-
-  pub sorted_distinct : Distinct slots (take r new)
-  sorted_distinct = let p = planned slots 1 zs (le_refl 1) in rw sorted_take (record { rises = p.rises; low = p.low })
+pub named_distinct : {slots : ℕ} (zs : List ℤ) {ds : List ℕ} → ds ≡ diagonals_of slots zs → Distinct slots ds
+named_distinct {slots} zs e = let p = planned slots 1 zs (le_refl 1) in rw e (record { rises = p.rises; low = p.low })

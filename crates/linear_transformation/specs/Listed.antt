@@ -7,6 +7,8 @@ use Rattle.ring.specs.Lists.{join, some, among}
 use Rattle.ring.specs.Residues.{residue_of}
 use Rattle.ring.specs.Divisors.{divides}
 use Rattle.ring.specs.Searches.{below}
+use Rattle.ring.specs.declared.refusal.Refusal.{Refusal}
+use Rattle.ring.specs.declared.refusal.Refusal.TheVariants.{Slots, OutOfRange, Baby, Giant}
 use Rattle.ring.specs.Refusals.{outside}
 use Rattle.linear_transformation.specs.declared.rotations.BsgsRotations.{BsgsRotations}
 use Rattle.linear_transformation.specs.declared.rotations.BsgsRotations.TheVariants.{PerRotation, PowersOfTwo}
@@ -15,9 +17,9 @@ use Rattle.linear_transformation.specs.Digits.{rot_of}
 use Rattle.linear_transformation.specs.Trees.{Tree, tree_of, tree_keys, tree_switches}
 
 -- slots or a step is out of range
-abbrev pub step_refusals : BsgsRotations → List (Bool × ℕ)
+abbrev pub step_refusals : BsgsRotations → List (Bool × Refusal)
 step_refusals PerRotation = []
-step_refusals (PowersOfTwo baby_step giant_step slots) = (outside slots, 1) ∷ (outside baby_step || outside giant_step, 3) ∷ []
+step_refusals (PowersOfTwo baby_step giant_step slots) = (outside slots, Slots) ∷ (outside baby_step || outside giant_step, OutOfRange) ∷ []
 
 -- ---- babies
 
@@ -35,8 +37,8 @@ abbrev pub baby_multiple : ℤ → ℕ → ℕ
 baby_multiple baby step = nat_abs baby / step
 
 -- the refusals of a list of babies, before the room is known
-abbrev pub baby_refusals : BsgsRotations → List ℤ → List (Bool × ℕ)
-baby_refusals rotations bs = step_refusals rotations ++ (some (λ z. no_baby z (baby_step_of rotations)) bs, 9) ∷ []
+abbrev pub baby_refusals : BsgsRotations → List ℤ → List (Bool × Refusal)
+baby_refusals rotations bs = step_refusals rotations ++ (some (λ z. no_baby z (baby_step_of rotations)) bs, Baby) ∷ []
 
 -- the multiples of the step that the babies are, in their order
 abbrev pub multiples_of : ℕ → List ℤ → List ℕ
@@ -77,11 +79,11 @@ baby_keys_of (PowersOfTwo baby_step giant_step slots) bs =
 -- ---- giants
 
 -- the refusals of a list of giants, before the room is known
-abbrev pub giant_refusals : BsgsRotations → List ℤ → List (Bool × ℕ)
+abbrev pub giant_refusals : BsgsRotations → List ℤ → List (Bool × Refusal)
 giant_refusals PerRotation gs = []
 giant_refusals (PowersOfTwo baby_step giant_step slots) gs =
     step_refusals (PowersOfTwo baby_step giant_step slots)
-    ++ (some (λ z. not (divides giant_step (residue_of z slots))) gs, 10) ∷ []
+    ++ (some (λ z. not (divides giant_step (residue_of z slots))) gs, Giant) ∷ []
 
 -- the tree of a list of giants
 abbrev pub list_tree : ℕ → ℕ → List ℤ → Tree

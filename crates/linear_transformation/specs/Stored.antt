@@ -1,23 +1,24 @@
 -- Document 01, "Keys", "Keyed run" and "Refusals": what a run asks about the plan of a stored map, whose offsets it reads as
 -- they stand: refusals, missing keys, pairs, and what the calls answer and write.
 -- Assumes nothing.
-use Rattle.std.specs.Prelude.{ℕ, zero, suc, ◌≡◌, Bool, not, ◌&&◌, List, [], ◌∷◌, ◌++◌, leb, ltb, length, get_or}
+use Rattle.std.specs.Prelude.{ℕ, zero, suc, ◌≡◌, Option, None, Some, Result, Ok, Err, Bool, not, ◌&&◌, List, [], ◌∷◌, ◌++◌, leb, ltb, length, get_or}
 use Rattle.ring.specs.Lists.{some, among}
 use Rattle.ring.specs.Searches.{every}
 use Rattle.ring.specs.Vectors.{in_front}
-use Rattle.ring.specs.Refusals.{first_refusal, on_accept, outside}
+use Rattle.ring.specs.declared.refusal.Refusal.{Refusal}
+use Rattle.ring.specs.declared.refusal.Refusal.TheVariants.{Slots, NotAMap, OutOfRange, Key, Room}
+use Rattle.ring.specs.Refusals.{number_of, first_refusal, on_accept, outside}
+use Rattle.ring.specs.Answers.{answered}
 use Rattle.linear_transformation.specs.declared.LinearTransformationStrategy.{LinearTransformationStrategy}
 use Rattle.linear_transformation.specs.declared.LinearTransformationStrategy.TheVariants.{Bsgs, BsgsPowersOfTwo, Direct}
-use Rattle.linear_transformation.specs.declared.plan.PlanAnswer.{PlanAnswer}
+use Rattle.linear_transformation.specs.declared.plan.PlanSizes.{PlanSizes}
 use Rattle.linear_transformation.specs.declared.records.PairRecord.{PairRecord}
-use Rattle.linear_transformation.specs.declared.rotations.TreeAnswer.{TreeAnswer}
-use Rattle.linear_transformation.specs.declared.rotations.TreeAnswer.TheVariants as Grown
-use Rattle.linear_transformation.specs.declared.stored.NeedsAnswer.{NeedsAnswer}
-use Rattle.linear_transformation.specs.declared.stored.NeedsAnswer.TheVariants.{Refused, Is}
+use Rattle.linear_transformation.specs.declared.rotations.TreeSizes.{TreeSizes}
+use Rattle.linear_transformation.specs.declared.stored.Needs.{Needs}
 use Rattle.linear_transformation.specs.Strategies.{width_outside}
 use Rattle.linear_transformation.specs.Trees.{Tree, tree_records, tree_switches}
 use Rattle.linear_transformation.specs.Schedules.{baby_step, plan_babies, plan_giants, plan_words, plan_tree, plan_keys, plan_switches}
-use Rattle.linear_transformation.specs.Calls.{plan_answered, tree_answered}
+use Rattle.linear_transformation.specs.Calls.{plan_sizes, tree_sizes}
 
 -- ---- refusals
 
@@ -33,9 +34,9 @@ offset_fits slots ks t = leb (least_at ks t) (get_or ks t 0) && ltb (get_or ks t
 unfoldable pub offsets_rise : ℕ → List ℕ → Bool
 offsets_rise slots ks = every (offset_fits slots ks) (length ks)
 
--- the refusals of a call about stored offsets, before keys and room; 2: they are no well-formed map's
-abbrev pub stored_refusals : ℕ → LinearTransformationStrategy → List ℕ → List (Bool × ℕ)
-stored_refusals slots strategy ks = (outside slots, 1) ∷ (not (offsets_rise slots ks), 2) ∷ (width_outside strategy, 3) ∷ []
+-- the refusals of a call about stored offsets, before keys and room; `NotAMap`: they are no well-formed map's
+abbrev pub stored_refusals : ℕ → LinearTransformationStrategy → List ℕ → List (Bool × Refusal)
+stored_refusals slots strategy ks = (outside slots, Slots) ∷ (not (offsets_rise slots ks), NotAMap) ∷ (width_outside strategy, OutOfRange) ∷ []
 
 -- ---- keys, pairs and steps of a plan
 
@@ -68,52 +69,51 @@ bits_for slots Direct ks = 0
 
 -- ---- `plan_needs`
 
-abbrev pub needs_refusal : ℕ → LinearTransformationStrategy → List ℕ → List ℕ → ℕ
+abbrev pub needs_refusal : ℕ → LinearTransformationStrategy → List ℕ → List ℕ → Option Refusal
 needs_refusal slots strategy ks held =
-    first_refusal (stored_refusals slots strategy ks ++ (is_missing held (plan_keys slots strategy ks), 11) ∷ [])
+    first_refusal (stored_refusals slots strategy ks ++ (is_missing held (plan_keys slots strategy ks), Key) ∷ [])
 
 -- document 01's numbers of the answer: the refusal, how many babies, giants, pairs and switches, the step and b
-abbrev pub needs_numbers : NeedsAnswer → List ℕ
-needs_numbers (Refused e) = e ∷ 0 ∷ 0 ∷ 0 ∷ 0 ∷ 0 ∷ 0 ∷ []
-needs_numbers (Is b g p s t n) = 0 ∷ b ∷ g ∷ p ∷ s ∷ t ∷ n ∷ []
+abbrev pub needs_numbers : Result Needs Refusal → List ℕ
+needs_numbers (Ok n) = 0 ∷ n.babies ∷ n.giants ∷ n.pairs ∷ n.switches ∷ n.step ∷ n.bits ∷ []
+needs_numbers (Err e) = number_of e ∷ 0 ∷ 0 ∷ 0 ∷ 0 ∷ 0 ∷ 0 ∷ []
 
--- the answer of a call with refusal e (0: none) and these numbers
-abbrev pub needs_answered : ℕ → ℕ → ℕ → ℕ → ℕ → ℕ → ℕ → NeedsAnswer
-needs_answered zero b g p s t n = Is b g p s t n
-needs_answered (suc e) b g p s t n = Refused (suc e)
+-- the numbers of a plan
+abbrev pub needs_of : ℕ → LinearTransformationStrategy → List ℕ → Needs
+needs_of slots strategy ks =
+    record {
+      babies = length (plan_babies slots strategy ks);
+      giants = length (plan_giants slots strategy ks);
+      pairs = pair_count slots strategy ks;
+      switches = plan_switches slots strategy ks;
+      step = step_of slots strategy ks;
+      bits = bits_for slots strategy ks;
+    }
 
 -- the answer by the refusal e
-unfoldable pub plan_needs : ℕ → ℕ → LinearTransformationStrategy → List ℕ → NeedsAnswer
-plan_needs e slots strategy ks =
-    needs_answered
-    e
-    (length (plan_babies slots strategy ks))
-    (length (plan_giants slots strategy ks))
-    (pair_count slots strategy ks)
-    (plan_switches slots strategy ks)
-    (step_of slots strategy ks)
-    (bits_for slots strategy ks)
+unfoldable pub plan_needs : Option Refusal → ℕ → LinearTransformationStrategy → List ℕ → Result Needs Refusal
+plan_needs e slots strategy ks = answered e (needs_of slots strategy ks)
 
 -- ---- `stored_plan`
 
-abbrev pub stored_plan_refusal : ℕ → LinearTransformationStrategy → List ℕ → List ℕ → ℕ
+abbrev pub stored_plan_refusal : ℕ → LinearTransformationStrategy → List ℕ → List ℕ → Option Refusal
 stored_plan_refusal slots strategy ks plan =
-    first_refusal (stored_refusals slots strategy ks ++ (ltb (length plan) (length (plan_words slots strategy ks)), 12) ∷ [])
+    first_refusal (stored_refusals slots strategy ks ++ (ltb (length plan) (length (plan_words slots strategy ks)), Room) ∷ [])
 
-pub record StoredPlanWritten (slots : ℕ) (strategy : LinearTransformationStrategy) (ks old new : List ℕ) (r : PlanAnswer) : Type 0 where
-  pub answer : r ≡ plan_answered (stored_plan_refusal slots strategy ks old) (length (plan_babies slots strategy ks)) (length (plan_giants slots strategy ks)) (length ks)
+pub record StoredPlanWritten (slots : ℕ) (strategy : LinearTransformationStrategy) (ks old new : List ℕ) (r : Result PlanSizes Refusal) : Type 0 where
+  pub answer : r ≡ answered (stored_plan_refusal slots strategy ks old) (plan_sizes slots strategy ks)
   pub words : new ≡ on_accept (stored_plan_refusal slots strategy ks old) (in_front (plan_words slots strategy ks) old) old
 
 -- ---- `plan_records`: the records of the tree over a plan's giants, which are read as they stand
 
 -- what the call leaves, by its refusal e
-pub record RecordsLeft (e : ℕ) (t : Tree) (old new : List PairRecord) (r : TreeAnswer) : Type 0 where
-  pub answer : r ≡ tree_answered e t
+pub record RecordsLeft (e : Option Refusal) (t : Tree) (old new : List PairRecord) (r : Result (Option TreeSizes) Refusal) : Type 0 where
+  pub answer : r ≡ answered e (Some (tree_sizes t))
   pub records_are : new ≡ on_accept e (in_front (tree_records t) old) old
 
 -- per rotation there is no tree, and nothing is written
-abbrev pub PlanRecordsWritten : ℕ → LinearTransformationStrategy → List ℕ → List PairRecord → List PairRecord → TreeAnswer → Type 0
-PlanRecordsWritten slots (Bsgs width) gs old new r = (r ≡ Grown.NoTree) × (new ≡ old)
+abbrev pub PlanRecordsWritten : ℕ → LinearTransformationStrategy → List ℕ → List PairRecord → List PairRecord → Result (Option TreeSizes) Refusal → Type 0
+PlanRecordsWritten slots (Bsgs width) gs old new r = (r ≡ Ok None) × (new ≡ old)
 PlanRecordsWritten slots (BsgsPowersOfTwo width) gs old new r =
-    RecordsLeft (first_refusal (stored_refusals slots (BsgsPowersOfTwo width) gs ++ (ltb (length old) (pair_count slots (BsgsPowersOfTwo width) gs), 12) ∷ [])) (plan_tree slots width gs) old new r
-PlanRecordsWritten slots Direct gs old new r = (r ≡ Grown.NoTree) × (new ≡ old)
+    RecordsLeft (first_refusal (stored_refusals slots (BsgsPowersOfTwo width) gs ++ (ltb (length old) (pair_count slots (BsgsPowersOfTwo width) gs), Room) ∷ [])) (plan_tree slots width gs) old new r
+PlanRecordsWritten slots Direct gs old new r = (r ≡ Ok None) × (new ≡ old)

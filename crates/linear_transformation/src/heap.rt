@@ -1,76 +1,64 @@
 // The nodes of a tree in a heap: node n of level i stands at 2^(b-i) + n, the parent of h at h / 2.
 // Only the first 2^(b+1) places are looked at, so a small tree is cheap.
-ghost use Rattle.std.specs.Prelude.{◌≡◌, ◌+◌, ◌*◌, ◌^◌, ◌≤◌, ◌<◌, pos, ◌*ℤ◌, ◌||◌, length};
+ghost use Rattle.std.specs.Prelude.{◌≡◌, suc, ◌-◌, ◌+◌, ◌*◌, ◌^◌, ◌≤◌, ◌<◌, pos, ◌*ℤ◌, ◌||◌, length};
 ghost use Rattle.ring.specs.Vectors.{in_front, Behind};
 ghost use Rattle.ring.specs.Answers.{answered};
 ghost use Rattle.linear_transformation.specs.Digits.{rot_of, level_rotation};
 ghost use Rattle.linear_transformation.specs.Trees.{level_words};
 ghost use Rattle.linear_transformation.specs.Calls.{level_refusal};
-ghost use Rattle.linear_transformation.specs.Steps.Trees.{Climbing, Climbed, heap_pairs, heap_levels, heap_switches, Turnable, LevelDigit, LevelAsked, LevelsAsked, keys_of};
+ghost use Rattle.linear_transformation.specs.Steps.Trees.{Climbing, Climbed, LevelOf, level_pairs, heap_levels, heap_switches, Turnable, LevelDigit, LevelAsked, LevelsAsked, keys_of};
 
 use crate::digits::{Digit, Rot};
+use ring::Refusal;
 
+// Kept: `1 << n` in its place would need at each place why the shift gives 2^n.
 pub(crate) fn power(n: u32) -> u32
     requires { n ≤ 16 }
     ensures { result ≡ 2 ^ n }
 {
-    let mut p = 1;
-    for i in 0..n {
-        p = 2 * p;
-    }
-    p
-}
-
-fn either(a: bool, b: bool) -> bool
-    ensures { result ≡ (a || b) }
-{
-    if a {
-        return true;
-    }
-    b
+    1 << n
 }
 
 // Marks the nodes above the marked leaves, level after level.
+// Kept: there is no heap memory, so the nodes stand in a table of fixed size, and the tree's b bounds those that are looked at.
 pub(crate) fn climb(size: usize, heap: &mut [bool; 131072])
     requires { Climbing size heap.old }
     ensures { Climbed size heap.old heap.new }
 {
-    let mut h = size;
-    while 1 < h {
-        h -= 1;
-        heap[h] = either(heap[2 * h], heap[2 * h + 1]);
+    for h in (1..size).rev() {
+        heap[h] = heap[2 * h] || heap[2 * h + 1];
     }
 }
 
-// The number of pairs of the level with 2·m places.
-fn level_size(m: usize, heap: &[bool; 131072]) -> usize
-    requires { m ≤ 32768 }
-    ensures { result ≡ length (heap_pairs heap.now m m) }
+// The number of odd places of a level: as many as there are pairs at most.
+pub(crate) fn odd_places(bits: u32, level: u32) -> usize
+    requires { LevelOf bits level }
+    ensures { result ≡ 2 ^ (bits - suc level) }
 {
-    let mut n = 0;
-    for k in 0..m {
-        if heap[2 * (m + k) + 1] {
-            n += 1;
-        }
-    }
-    n
+    power(bits - 1 - level) as usize
+}
+
+// The number of pairs of a level.
+// Kept: there is no heap memory, so the nodes stand in a table of fixed size, and the tree's b bounds those that are looked at.
+fn level_size(bits: u32, level: u32, heap: &[bool; 131072]) -> usize
+    requires { LevelOf bits level }
+    ensures { result ≡ length (level_pairs heap.now bits level) }
+{
+    let m = odd_places(bits, level);
+    (0..m).filter(|&k| heap[2 * (m + k) + 1]).count()
 }
 
 // The number of pairs of all levels.
+// Kept: there is no heap memory, so the nodes stand in a table of fixed size, and the tree's b bounds those that are looked at.
 pub(crate) fn tree_size(bits: u32, heap: &[bool; 131072]) -> usize
     requires { bits ≤ 16 }
     ensures { result ≡ heap_switches bits heap.now bits }
 {
-    let mut n = 0;
-    let mut size = power(bits) as usize;
-    for i in 0..bits {
-        size = size / 2;
-        n += level_size(size, heap);
-    }
-    n
+    (0..bits).map(|i| level_size(bits, i, heap)).sum()
 }
 
 // The rotation of a level's digit: the only way from a digit to a rotation.
+// Kept: no conversion: a product, reduced.
 fn rotation_of(digit: Digit, step: u32, slots: u32) -> Rot
     requires { Turnable slots step digit }
     ensures { result ≡ rot_of slots (digit.0 *ℤ pos step) }
@@ -100,26 +88,30 @@ fn level_rotation(bits: u32, i: u32, step: u32, slots: u32) -> Rot
 
 // The rotation of a level of a tree with b = `bits`, for any numbers. Refuses with 1 slots and with 3 a
 // step outside 1..=65536, and with 3 more than 16 levels or a level that is none of the tree's.
-pub fn tree_rotation(bits: u32, level: u32, giant_step: usize, slots: usize) -> ring::Answer
+pub fn tree_rotation(
+    bits: u32,
+    level: u32,
+    giant_step: usize,
+    slots: usize,
+) -> Result<usize, Refusal>
     ensures { result ≡ answered (level_refusal slots giant_step bits level) (level_rotation slots giant_step bits level).0 }
 {
     if ring::is_outside(slots) {
-        return ring::Answer::Refused(1);
+        return Err(Refusal::Slots);
     }
     if ring::is_outside(giant_step) {
-        return ring::Answer::Refused(3);
+        return Err(Refusal::OutOfRange);
     }
-    if 16 < bits {
-        return ring::Answer::Refused(3);
-    }
-    if bits <= level {
-        return ring::Answer::Refused(3);
+    if 16 < bits || bits <= level {
+        return Err(Refusal::OutOfRange);
     }
     let rotation = level_rotation(bits, level, giant_step as u32, slots as u32);
-    ring::Answer::Is(ring::wide(rotation.0))
+    Ok(rotation.0 as usize)
 }
 
 // Two words a level: its rotation and its number of pairs.
+// Kept: there is no heap memory, so the nodes stand in a table of fixed size, and the tree's b bounds those that are looked at.
+// Kept: the levels are no list; each is made from its number.
 pub(crate) fn write_levels(
     bits: u32,
     step: u32,
@@ -131,33 +123,28 @@ pub(crate) fn write_levels(
     requires bits_in_bounds { 2 * bits ≤ length levels.old }
     ensures { levels.new ≡ in_front (level_words (heap_levels slots step bits heap.now bits)) levels.old }
 {
-    let mut size = power(bits) as usize;
     let mut at = 0;
     for i in 0..bits {
-        size = size / 2;
         levels[at] = level_rotation(bits, i, step, slots).0;
-        levels[at + 1] = level_size(size, heap) as u32;
+        levels[at + 1] = level_size(bits, i, heap) as u32;
         at += 2;
     }
 }
 
 // The number of levels that have pairs.
+// Kept: there is no heap memory, so the nodes stand in a table of fixed size, and the tree's b bounds those that are looked at.
 pub(crate) fn keys_count(bits: u32, step: u32, slots: u32, heap: &[bool; 131072]) -> usize
     requires { bits ≤ 16 }
     ensures { result ≡ length (keys_of (heap_levels slots step bits heap.now bits)) }
 {
-    let mut size = power(bits) as usize;
-    let mut n = 0;
-    for i in 0..bits {
-        size = size / 2;
-        if level_size(size, heap) != 0 {
-            n += 1;
-        }
-    }
-    n
+    (0..bits)
+        .filter(|&i| level_size(bits, i, heap) != 0)
+        .count()
 }
 
 // The rotations of the levels that have pairs, from at on. Gives the place behind them.
+// Kept: there is no heap memory, so the nodes stand in a table of fixed size, and the tree's b bounds those that are looked at.
+// Kept: the levels are no list; where a word goes depends on those before.
 pub(crate) fn write_keys(
     bits: u32,
     step: u32,
@@ -170,11 +157,9 @@ pub(crate) fn write_keys(
     requires bits_in_bounds { at + length (keys_of (heap_levels slots step bits heap.now bits)) ≤ length out.old }
     ensures { Behind at (keys_of (heap_levels slots step bits heap.now bits)) out.old out.new result }
 {
-    let mut size = power(bits) as usize;
     let mut to = at;
     for i in 0..bits {
-        size = size / 2;
-        if level_size(size, heap) != 0 {
+        if level_size(bits, i, heap) != 0 {
             out[to] = level_rotation(bits, i, step, slots).0;
             to += 1;
         }

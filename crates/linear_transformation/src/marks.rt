@@ -13,6 +13,7 @@ use crate::babies::close;
 use crate::plan::{baby_step_of, mark_babies, multiples_end};
 
 // Writes k·step in front of out for each marked k below n; gives the place behind them.
+// Kept: there is no heap, so the table has its full size at every call, and a bound says how much of it is in use.
 pub(crate) fn write_marks(seen: &[bool; 65536], n: usize, step: usize, out: &mut [u32]) -> usize
     requires n_bound { n ≤ 65536 }
     requires range { Range step }
@@ -20,8 +21,8 @@ pub(crate) fn write_marks(seen: &[bool; 65536], n: usize, step: usize, out: &mut
     ensures { Writing 0 (map (λ k. k * step) (below (marks seen.now) n)) out.old out.new result }
 {
     let mut at = 0;
-    for k in 0..n {
-        if seen[k] {
+    for (k, &is_marked) in seen[..n].iter().enumerate() {
+        if is_marked {
             out[at] = (k * step) as u32;
             at += 1;
         }
@@ -43,10 +44,8 @@ pub(crate) fn mark_own(ds: &[u32], slots: u32, width: u32, seen: &mut [bool; 655
     ensures { BabyTable (babies slots width ds.now) seen.new result.n result.step }
 {
     mark_babies(ds, width, 1, seen);
-    Marked {
-        n: multiples_end(slots, width, 1),
-        step: 1,
-    }
+    let n = multiples_end(slots, width, 1);
+    Marked { n, step: 1 }
 }
 
 // Marks their closure, as multiples of the baby step.
@@ -59,13 +58,12 @@ pub(crate) fn mark_closure(ds: &[u32], slots: u32, width: u32, seen: &mut [bool;
     let n = multiples_end(slots, width, step);
     mark_babies(ds, width, step, seen);
     close(seen, n);
-    Marked {
-        n: n,
-        step: ring::wide(step),
-    }
+    let step = step as usize;
+    Marked { n, step }
 }
 
 // Marks the plan's babies.
+// Kept: as `keys_sorted` in keys.rt.
 pub(crate) fn mark_plan(
     ds: &[u32],
     slots: u32,
@@ -76,13 +74,9 @@ pub(crate) fn mark_plan(
     requires unmarked { Unmarked seen.old }
     ensures { BabyTable (plan_babies slots strategy ds.now) seen.new result.n result.step }
 {
-    match strategy {
-        LinearTransformationStrategy::Bsgs { giant_step: g } => {
-            mark_own(ds, slots, g as u32, seen)
-        }
-        LinearTransformationStrategy::BsgsPowersOfTwo { giant_step: g } => {
-            mark_closure(ds, slots, g as u32, seen)
-        }
-        LinearTransformationStrategy::Direct => mark_own(ds, slots, 1, seen),
+    let width = strategy.word_width();
+    if strategy.turns_each() {
+        return mark_own(ds, slots, width, seen);
     }
+    mark_closure(ds, slots, width, seen)
 }

@@ -1,9 +1,11 @@
-// How a run reaches its rotations, and the answers of the calls about lists of babies and giants.
+// How a run reaches its rotations, and what the calls about lists of babies and giants count.
 ghost use Rattle.linear_transformation.specs.Steps.Numbers.{StepsJudged};
 ghost use Rattle.linear_transformation.specs.declared.rotations.BsgsRotations.TheVariants.{PowersOfTwo};
 
+use ring::Refusal;
+
 // One key for each rotation, or the keys of the power-of-two multiples of the two steps.
-#[derive(Clone, Copy)]
+#[derive(Clone, Copy, Debug, PartialEq, Eq)]
 pub enum BsgsRotations {
     PerRotation,
     PowersOfTwo {
@@ -14,45 +16,41 @@ pub enum BsgsRotations {
 }
 
 // The numbers of passes and moves.
-#[derive(Clone, Copy)]
-pub enum PassesAnswer {
-    Refused(u32),
-    Is { passes: u32, moves: usize },
+#[derive(Clone, Copy, Debug, PartialEq, Eq)]
+pub struct PassSizes {
+    pub passes: u32,
+    pub moves: usize,
 }
 
-// b and the number of pairs of all levels; per rotation there is no tree.
-#[derive(Clone, Copy)]
-pub enum TreeAnswer {
-    Refused(u32),
-    NoTree,
-    Is { bits: u32, pairs: usize },
+// b of a tree and the number of pairs of all its levels.
+#[derive(Clone, Copy, Debug, PartialEq, Eq)]
+pub struct TreeSizes {
+    pub bits: u32,
+    pub pairs: usize,
 }
 
-fn numbers_refusal(baby_step: usize, giant_step: usize, slots: usize) -> u32
+fn check_numbers(baby_step: usize, giant_step: usize, slots: usize) -> Result<(), Refusal>
     ensures { StepsJudged (PowersOfTwo baby_step giant_step slots) result }
 {
     if ring::is_outside(slots) {
-        return 1;
+        return Err(Refusal::Slots);
     }
-    if ring::is_outside(baby_step) {
-        return 3;
+    if ring::is_outside(baby_step) || ring::is_outside(giant_step) {
+        return Err(Refusal::OutOfRange);
     }
-    if ring::is_outside(giant_step) {
-        return 3;
-    }
-    0
+    Ok(())
 }
 
-// 1 where slots and 3 where a step is outside 1..=65536, else 0.
-pub(crate) fn steps_refusal(rotations: BsgsRotations) -> u32
+// Refuses slots and steps outside 1..=65536.
+pub(crate) fn check_steps(rotations: BsgsRotations) -> Result<(), Refusal>
     ensures { StepsJudged rotations result }
 {
     match rotations {
-        BsgsRotations::PerRotation => 0,
+        BsgsRotations::PerRotation => Ok(()),
         BsgsRotations::PowersOfTwo {
             baby_step: baby,
             giant_step: giant,
             slots: n,
-        } => numbers_refusal(baby, giant, n),
+        } => check_numbers(baby, giant, n),
     }
 }

@@ -10,6 +10,10 @@ ghost use Rattle.linear_transformation.specs.Steps.Plans.{Diagonals};
 ghost use Rattle.linear_transformation.specs.Steps.Widths.{Choice, Fresh, Weighed, Narrowest};
 ghost use Rattle.linear_transformation.specs.Plans.{Distinct};
 
+use crate::sorting::sort_into;
+use ring::Refusal;
+
+// Kept: tried with `windows(2)`: that the difference of a pair is not below 0 (`overflow_sub-pair`) stayed open.
 fn smallest_gap(ds: &[u32]) -> u32
     requires distinct { Distinct 65536 ds.now }
     requires in_bounds { 2 ≤ length ds.now }
@@ -35,8 +39,7 @@ fn weigh(ds: &[u32], width: u32, stamps: &mut [u32; 65536]) -> u32
     let mut babies = 0;
     let mut giants = 0;
     let mut edge = 0;
-    for t in 0..ds.len() {
-        let k = ds[t];
+    for &k in ds {
         let baby = k % width;
         if stamps[baby as usize] != width {
             stamps[baby as usize] = width;
@@ -47,10 +50,12 @@ fn weigh(ds: &[u32], width: u32, stamps: &mut [u32; 65536]) -> u32
         }
         edge = k - baby + width;
     }
-    crate::larger(babies, giants)
+    babies.max(giants)
 }
 
 // The last of the multiples of the gap, below slots, whose cost is least.
+// Kept: there is no heap, so the stamps are an array on the stack, one for each number that can be a baby.
+// Kept: tried with `step_by`: `overflow_step-width` and `returns-after-weight-least` stayed open.
 fn cheapest_multiple(ds: &[u32], slots: u32, gap: u32) -> u32
     requires { Choice slots ds.now gap }
     ensures { result ≡ best_width slots ds.now }
@@ -84,13 +89,15 @@ fn best_width(ds: &[u32], slots: u32) -> u32
 // Among the multiples of the smallest gap between the diagonals, below slots, the width with the
 // fewest babies or giants, whichever are more; the largest of these. Refuses with 1 slots outside
 // 1..=65536.
-pub fn optimal_bsgs_giant_step(indexes: &[i64], slots: usize) -> ring::Answer
+// Kept: there is no heap, so the sorted diagonals stand in an array on the stack, as long as they can be.
+pub fn optimal_bsgs_giant_step(indexes: &[i64], slots: usize) -> Result<usize, Refusal>
     ensures { result ≡ answered (normalize_refusal slots) (best_width slots (diagonals_of slots indexes.now)) }
 {
     if ring::is_outside(slots) {
-        return ring::Answer::Refused(1);
+        return Err(Refusal::Slots);
     }
+    let n = slots as u32;
     let mut list = [0u32; 65536];
-    let n = crate::sorting::sort_diagonals(indexes, slots as u32, &mut list);
-    ring::Answer::Is(best_width(&list[..n], slots as u32) as usize)
+    let ds = sort_into(indexes, n, &mut list);
+    Ok(best_width(ds, n) as usize)
 }

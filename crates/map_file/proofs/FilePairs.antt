@@ -1,27 +1,24 @@
 -- The walks over the pairs of a file: what they keep, a turn, and each way out.
 -- Assumes nothing.
 use Prim.Native.Nat.{ℕ, ◌+◌, ◌*◌, ◌≤◌, ◌<◌}
-use mathlib.Core.Path.{◌≡◌, sym, ap, ◌∙◌}
-use mathlib.Core.Bool.{true, false, true≢false}
+use mathlib.Core.Path.{◌≡◌, refl, sym, ap, ◌∙◌}
+use Rattle.std.specs.Prelude.{Ok, Err}
+use mathlib.Core.Bool.{false}
 use mathlib.Core.List.{List}
 use native.Mathlib.Omega.{arith}
 use borrow.Author.Tests.{le-leb}
-use lib.Dec.{leb}
 use lib.ListN.{length}
-use Rattle.ring.specs.declared.Answer.TheVariants.{Refused, Is}
+use Rattle.ring.specs.declared.refusal.Refusal.TheVariants.{File}
 use Rattle.ring.specs.Searches.{every}
 use Rattle.ring.specs.Vectors.{tabulate, in_front}
-use Rattle.ring.specs.Laws.Answers.{no_refused, same_value}
-use Rattle.ring.specs.Laws.Searches.{both, second}
 use Rattle.ring.specs.Laws.Vectors.{length_tabulate, tabulate_more}
-use Rattle.diagonals.specs.Maps.{pair_room, offset_at, length_at, start_at, formed_at, well_formed, put_pair, pair_words, value_words, WellFormed}
+use Rattle.diagonals.specs.Maps.{pair_room, offset_at, length_at, start_at, formed_at, well_formed, put_pair, pair_words, value_words}
 use Rattle.diagonals.specs.Laws.Checking.{Checking, checking_done}
-use Rattle.diagonals.specs.Laws.Maps.{formed_means}
 use Rattle.diagonals.specs.Laws.Pairs.{length_pair_words, put_more}
-use Rattle.diagonals.specs.Laws.Words.{pair_words_none, pair_words_more, start_alone, means_formed}
-use Rattle.map_file.specs.Files.{number_at, offset_in, length_in, diagonal_in, map_in}
+use Rattle.diagonals.specs.Laws.Words.{pair_words_none, pair_words_more, start_alone}
+use Rattle.map_file.specs.Files.{number_at, count_in, offset_in, length_in, diagonal_in, map_in}
 use Rattle.map_file.specs.Laws.Telling.{length_told, offset_told, length_told_at}
-use Rattle.map_file.specs.Steps.{Headed, PairsJudged}
+use Rattle.map_file.specs.Steps.{pairs_answer, Headed}
 
 -- ---- the numbers of a pair
 
@@ -72,21 +69,23 @@ module _ {bytes : List ℕ} {slots count : ℕ} (h : Headed bytes slots count) w
   count_is : count ≡ length (map_in bytes)
   count_is = h.count_is ∙ sym (length_told bytes)
 
-  pub pair_offset : (i : ℕ) {x : ℕ} → i < count → x ≡ offset_in bytes i → x ≡ offset_at pairs i
-  pair_offset i l e = e ∙ sym (offset_told bytes i (omega (arith, h.count_is)))
+  -- the numbers of a pair, as they are read
+  pub pair_read : {i offset len : ℕ} → i < count → offset ≡ number_at 4 bytes (8 + 8 * i) → len ≡ number_at 4 bytes (8 + 8 * i + 4) → (offset ≡ offset_at pairs i) × (len ≡ length_at pairs i)
+  pair_read {i} l eo el =
+      let inside : i < count_in bytes = omega (arith, h.count_is) in (
+        offset_read bytes i refl eo ∙ sym (offset_told bytes i inside),
+        length_read bytes i (omega arith) el ∙ sym (length_told_at bytes i inside),
+      )
 
-  pub pair_length : (i : ℕ) {x : ℕ} → i < count → x ≡ length_in bytes i → x ≡ length_at pairs i
-  pair_length i l e = e ∙ sym (length_told_at bytes i (omega (arith, h.count_is)))
+  formed_is : well_formed slots (length (map_in bytes)) pairs values ≡ every (formed_at slots pairs values) count
+  unfolding well_formed
+  formed_is =
+      rw (le-leb (pair_room (length (map_in bytes))) (length pairs) (omega (arith, length_pair_words (map_in bytes))))
+      (ap (every (formed_at slots pairs values)) (sym count_is))
 
   -- some pair is not well formed
-  pub told_unformed : {e : ℕ} → false ≡ every (formed_at slots pairs values) count → PairsJudged bytes slots (Refused e)
-  unfolding well_formed
-  told_unformed q =
-      record {
-        formed = λ total z. no_refused z;
-        total_is = λ total z. no_refused z;
-        unformed = λ e z w. true≢false (sym (second (leb (pair_room (length (map_in bytes))) (length pairs)) (every (formed_at slots pairs values) (length (map_in bytes))) (means_formed slots (length (map_in bytes)) pairs values w)) ∙ sym (q ∙ ap (every (formed_at slots pairs values)) count_is));
-      }
+  pub told_unformed : false ≡ every (formed_at slots pairs values) count → Err File ≡ pairs_answer bytes slots
+  told_unformed q = rw (formed_is ∙ sym q)
 
   -- all are
   module _ {total next i : ℕ} (c : Checking slots count pairs total next i) (d : count ≤ i) where
@@ -95,17 +94,5 @@ module _ {bytes : List ℕ} {slots count : ℕ} (h : Headed bytes slots count) w
         let e : i ≡ length (map_in bytes) = omega (arith, c.room, count_is) in
         c.total_is ∙ ap (start_at pairs) e ∙ start_alone (map_in bytes)
 
-    passes : every (formed_at slots pairs values) (length (map_in bytes)) ≡ true
-    passes = ap (every (formed_at slots pairs values)) (sym count_is) ∙ sym (checking_done c d values) ∙ le-leb total (length values) (omega (arith, total_all))
-
-    well : WellFormed slots (length (map_in bytes)) pairs values
-    unfolding well_formed
-    well = formed_means slots (length (map_in bytes)) pairs values (both (le-leb (pair_room (length (map_in bytes))) (length pairs) (omega (arith, length_pair_words (map_in bytes)))) passes)
-
-    pub told_formed : PairsJudged bytes slots (Is total)
-    told_formed =
-        record {
-          formed = λ t z. well;
-          total_is = λ t z. sym (same_value z) ∙ total_all;
-          unformed = λ e z. no_refused (sym z);
-        }
+    pub told_formed : Ok total ≡ pairs_answer bytes slots
+    told_formed = rw (formed_is ∙ sym (checking_done c d values) ∙ le-leb total (length values) (omega (arith, total_all)), total_all)

@@ -1,32 +1,33 @@
 -- A map that the store accepts: the numbers that its file has, and its file as the writer puts it.
 -- Assumes nothing.
-use Prim.Native.Nat.{ℕ, zero, suc, ◌+◌, ◌*◌, ◌≤◌, ◌<◌}
+use Rattle.std.specs.Prelude.{Some, Result, Ok, Err}
+use Prim.Native.Nat.{ℕ, zero, suc, ◌+◌, ◌*◌, ◌^◌, ◌≤◌, ◌<◌}
 use mathlib.Core.Path.{◌≡◌, sym, ap, ◌∙◌}
 use mathlib.Core.Bool.{Bool, true, false}
 use mathlib.Core.List.{List, [], ◌∷◌, ◌++◌, append_assoc}
-use native.Mathlib.Nat.{le_of_dvd, suc-ne-zero}
+use native.Mathlib.Nat.{le_of_dvd}
 use native.Mathlib.Omega.{arith}
 use borrow.Author.Tests.{lt-ltb, le-ltb}
 use lib.Dec.{ltb}
 use lib.ListN.{length, take, length-append}
 use lib.Seq.{length-take-le}
+use Rattle.ring.specs.declared.refusal.Refusal.{Refusal}
+use Rattle.ring.specs.declared.refusal.Refusal.TheVariants.{Room}
 use Rattle.ring.specs.Lists.{join}
 use Rattle.ring.specs.Vectors.{in_front, put_at}
-use Rattle.ring.specs.declared.Answer.{Answer}
-use Rattle.ring.specs.declared.Answer.TheVariants.{Refused, Is}
 use Rattle.ring.specs.Answers.{answered}
 use Rattle.ring.specs.Refusals.{first_refusal}
 use Rattle.ring.specs.Laws.Lists.{length_join}
-use Rattle.ring.specs.Laws.Refusals.{inside, first_refused, first_later, on_accept_refused}
-use Rattle.ring.specs.Laws.Answers.{when_is, when_refused, answered_refused, no_refused, refused_alike}
+use Rattle.ring.specs.Laws.Refusals.{inside, first_later}
+use Rattle.ring.specs.Laws.Answers.{when_ok, when_refused}
 use Rattle.ring.specs.Laws.Places.{put_both, put_front}
 use Rattle.diagonals.specs.Maps.{Diagonal, length_at, start_at, value_words, view, WellFormed}
 use Rattle.diagonals.specs.Calls.{map_refusals, map_refusal}
 use Rattle.diagonals.specs.Laws.Maps.{stored_divides, count_low, values_inside, length_view}
 use Rattle.diagonals.specs.Laws.Words.{values_view}
-use Rattle.diagonals.specs.Laws.Calls.{stored_means}
+use Rattle.diagonals.specs.Laws.Calls.{stored_means, still_refused}
 use Rattle.map_file.specs.Files.{bytes_of, pair_bytes, file_of}
-use Rattle.map_file.specs.Calls.{map_file, size_answer, write_refusal, FileWritten}
+use Rattle.map_file.specs.Calls.{map_file, write_refusal, FileWritten}
 use Rattle.map_file.specs.Steps.{StoredMap}
 use Rattle.map_file.specs.Laws.Numbers.{length_bytes_of}
 use Rattle.map_file.specs.Laws.Telling.{length_pair_bytes, length_file}
@@ -37,12 +38,12 @@ start_small pairs zero h = omega arith
 start_small pairs (suc n) h = omega (arith, start_small pairs n (λ i l. h i (omega arith)), h n (omega arith))
 
 -- what `used_values` answers
-abbrev pub used_answer : ℕ → ℕ → List ℕ → List ℕ → Answer
+abbrev pub used_answer : ℕ → ℕ → List ℕ → List ℕ → Result ℕ Refusal
 used_answer slots count pairs values = answered (map_refusal slots count pairs values) (length (value_words (view count pairs values)))
 
-pub stored_of : {slots count total : ℕ} {pairs values : List ℕ} {r : Answer} → r ≡ Is total → r ≡ used_answer slots count pairs values → StoredMap slots count pairs values total
+pub stored_of : {slots count total : ℕ} {pairs values : List ℕ} {r : Result ℕ Refusal} → r ≡ Ok total → r ≡ used_answer slots count pairs values → StoredMap slots count pairs values total
 stored_of {slots} {count} {total} {pairs} {values} e h =
-    let q = when_is (map_refusal slots count pairs values) (length (value_words (view count pairs values))) total (sym e ∙ h) in
+    let q = when_ok (map_refusal slots count pairs values) (length (value_words (view count pairs values))) total (sym e ∙ h) in
     record { accepted = q.0; total_is = q.1 }
 
 pub formed_small : {slots count : ℕ} {pairs values : List ℕ} → WellFormed slots count pairs values → 1 ≤ slots → slots ≤ 65536 → start_at pairs count ≤ 4294967296
@@ -69,39 +70,36 @@ module _ {slots count total : ℕ} {pairs values : List ℕ} (s : StoredMap slot
   pub stored_size : 8 + 8 * count + 8 * total ≡ length (map_file slots count pairs values)
   stored_size = sym (length_file slots (view count pairs values) ∙ rw (length_view count pairs values, s.total_is))
 
--- ---- returns of the calls that are lent a map
+-- the size of a file is a number
+pub small_size : (slots count : ℕ) (pairs values : List ℕ) {total : ℕ} {r : Result ℕ Refusal} → r ≡ Ok total → r ≡ used_answer slots count pairs values → 8 + 8 * count + 8 * total ≤ 2 ^ 36
+small_size slots count pairs values e h =
+    let s : StoredMap slots count pairs values _ = stored_of e h in
+    omega (arith, stored_count s, (stored_total s).0)
 
-pub size_refused : (slots count : ℕ) (pairs values : List ℕ) {e : ℕ} {r : Answer} → r ≡ Refused e → r ≡ used_answer slots count pairs values → Refused e ≡ size_answer slots count pairs values
-size_refused slots count pairs values {e} q h = refused_alike (map_refusal slots count pairs values) _ _ e (sym q ∙ h)
+-- ---- returns of the writer
 
 module _ (slots count : ℕ) (pairs values old : List ℕ) where
-  abbrev room : List (Bool × ℕ)
-  room = (ltb (length old) (length (map_file slots count pairs values)), 12) ∷ []
+  abbrev room : List (Bool × Refusal)
+  room = (ltb (length old) (length (map_file slots count pairs values)), Room) ∷ []
 
   -- a map that is refused
-  pub map_refused : {e : ℕ} {r : Answer} → r ≡ Refused e → r ≡ used_answer slots count pairs values → FileWritten slots count pairs values old old (Refused e)
+  pub map_refused : {e : Refusal} {r : Result ℕ Refusal} → r ≡ Err e → r ≡ used_answer slots count pairs values → FileWritten slots count pairs values old old (Err e)
   map_refused {e} q h =
-      let m : ℕ = map_refusal slots count pairs values in
-      let v : ℕ = length (value_words (view count pairs values)) in
-      let some : m ≡ 0 → ⊥ = λ z. no_refused (sym q ∙ h ∙ ap (λ (x : ℕ). answered x v) z) in
-      let same : write_refusal slots count pairs values old ≡ m = first_refused (map_refusals slots count pairs values) room some in
-      record {
-        answer = rw (same, when_refused m v e (sym q ∙ h)) (answered_refused m _ some);
-        out = rw same (sym (on_accept_refused m _ old some));
-      }
+      let same : write_refusal slots count pairs values old ≡ Some e = still_refused (map_refusals slots count pairs values) room (when_refused (map_refusal slots count pairs values) _ e (sym q ∙ h)) in
+      record { answer = rw same; out = rw same }
 
   module _ {total : ℕ} (s : StoredMap slots count pairs values total) where
     later : write_refusal slots count pairs values old ≡ first_refusal room
-    later = first_later (map_refusals slots count pairs values) room (suc-ne-zero 0, (suc-ne-zero 1, tt)) s.accepted
+    later = first_later (map_refusals slots count pairs values) room s.accepted
 
     -- an out that is too short
-    pub file_no_room : length old < 8 + 8 * count + 8 * total → FileWritten slots count pairs values old old (Refused 12)
+    pub file_no_room : length old < 8 + 8 * count + 8 * total → FileWritten slots count pairs values old old (Err Room)
     file_no_room l =
         let t : ltb (length old) (length (map_file slots count pairs values)) ≡ true = lt-ltb (length old) (length (map_file slots count pairs values)) (omega (arith, stored_size s)) in
         record { answer = rw (later, t); out = rw (later, t) }
 
     -- the file, put in four parts
-    pub file_put : {size : ℕ} {a b c new : List ℕ} → size ≡ 8 + 8 * count + 8 * total → size ≤ length old → a ≡ put_at 0 (bytes_of 4 slots) old → b ≡ put_at 4 (bytes_of 4 count) a → c ≡ put_at 8 (join pair_bytes (view count pairs values)) b → new ≡ put_at (8 + 8 * count) (join (bytes_of 8) (take total values)) c → FileWritten slots count pairs values old new (Is size)
+    pub file_put : {size : ℕ} {a b c new : List ℕ} → size ≡ 8 + 8 * count + 8 * total → size ≤ length old → a ≡ put_at 0 (bytes_of 4 slots) old → b ≡ put_at 4 (bytes_of 4 count) a → c ≡ put_at 8 (join pair_bytes (view count pairs values)) b → new ≡ put_at (8 + 8 * count) (join (bytes_of 8) (take total values)) c → FileWritten slots count pairs values old new (Ok size)
     unfolding file_of
     file_put {size} {a} {b} {c} {new} e l ha hb hc hn =
         let t : ltb (length old) (length (map_file slots count pairs values)) ≡ false = le-ltb (length old) (length (map_file slots count pairs values)) (omega (arith, stored_size s)) in

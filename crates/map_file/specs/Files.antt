@@ -1,6 +1,6 @@
 -- Document 02, A1: the bytes of a map's file, and the map that bytes tell.
 -- Assumes nothing.
-use Rattle.std.specs.Prelude.{ℕ, zero, suc, ◌+◌, ◌*◌, ◌/◌, ◌%◌, Bool, ◌&&◌, List, [], ◌∷◌, ◌++◌, eqb, length, get_or}
+use Rattle.std.specs.Prelude.{ℕ, zero, suc, ◌+◌, ◌*◌, ◌/◌, ◌%◌, Bool, ◌&&◌, List, [], ◌∷◌, ◌++◌, eqb, length, get_or, is_none}
 use Rattle.ring.specs.Lists.{join}
 use Rattle.ring.specs.Vectors.{tabulate}
 use Rattle.diagonals.specs.Maps.{Diagonal, pair_words, value_words}
@@ -61,4 +61,4 @@ map_in bytes = tabulate (count_in bytes) (diagonal_in bytes)
 unfoldable pub is_file : List ℕ → Bool
 is_file bytes =
     let ds = map_in bytes in
-    eqb (map_refusal (slots_in bytes) (length ds) (pair_words ds) (value_words ds)) 0 && eqb (length bytes) (length (file_of (slots_in bytes) ds))
+    is_none (map_refusal (slots_in bytes) (length ds) (pair_words ds) (value_words ds)) && eqb (length bytes) (length (file_of (slots_in bytes) ds))

@@ -1,17 +1,19 @@
 -- What the private steps of this crate ask and ensure. A reader need not believe these.
 -- Assumes nothing.
-use Rattle.std.specs.Prelude.{ℕ, ◌+◌, ◌*◌, ◌≤◌, ◌≡◌, List, length}
-use Rattle.ring.specs.Refusals.{Range}
-use Rattle.ring.specs.declared.Answer.{Answer}
-use Rattle.ring.specs.declared.Answer.TheVariants.{Refused, Is}
-use Rattle.diagonals.specs.Maps.{pair_words, value_words, view, WellFormed}
+use Rattle.std.specs.Prelude.{ℕ, ◌+◌, ◌*◌, ◌≤◌, ◌≡◌, not, List, [], ◌∷◌, length, None, Result, Ok}
+use Rattle.ring.specs.declared.refusal.Refusal.{Refusal}
+use Rattle.ring.specs.declared.refusal.Refusal.TheVariants.{File}
+use Rattle.ring.specs.Refusals.{first_refusal, Range}
+use Rattle.ring.specs.Answers.{answered}
+use Rattle.diagonals.specs.Maps.{well_formed, pair_words, value_words, view}
 use Rattle.diagonals.specs.Calls.{map_refusal}
+use Rattle.map_file.specs.declared.reading.Held.{Held}
 use Rattle.map_file.specs.Files.{slots_in, count_in, map_in}
 use Rattle.map_file.specs.Calls.{file_refusal}
 
 -- a map that is not refused, and the number of its values
 pub record StoredMap (slots count : ℕ) (pairs values : List ℕ) (total : ℕ) : Type 0 where
-  pub accepted : map_refusal slots count pairs values ≡ 0
+  pub accepted : map_refusal slots count pairs values ≡ None
   pub total_is : total ≡ length (value_words (view count pairs values))
 
 -- bytes with slots, count and all pairs
@@ -20,17 +22,18 @@ pub record Headed (bytes : List ℕ) (slots count : ℕ) : Type 0 where
   pub count_is : count ≡ count_in bytes
   pub inside : 8 + 8 * count ≤ length bytes
 
--- the words that bytes tell are well formed, and their values are `total`; or they are not
-pub record PairsJudged (bytes : List ℕ) (slots : ℕ) (r : Answer) : Type 0 where
-  pub formed : (total : ℕ) → r ≡ Is total → WellFormed slots (length (map_in bytes)) (pair_words (map_in bytes)) (value_words (map_in bytes))
-  pub total_is : (total : ℕ) → r ≡ Is total → total ≡ length (value_words (map_in bytes))
-  pub unformed : (e : ℕ) → r ≡ Refused e → WellFormed slots (length (map_in bytes)) (pair_words (map_in bytes)) (value_words (map_in bytes)) → ⊥
+-- the words that bytes tell are well formed, and how many values they have
+abbrev pub pairs_answer : List ℕ → ℕ → Result ℕ Refusal
+pairs_answer bytes slots =
+    let ds = map_in bytes in
+    answered (first_refusal ((not (well_formed slots (length ds) (pair_words ds) (value_words ds)), File) ∷ [])) (length (value_words ds))
 
--- the test of a file, with what an accepted one holds
-pub record FileJudged (bytes : List ℕ) (refusal slots count total : ℕ) : Type 0 where
-  pub answer : refusal ≡ file_refusal bytes
-  pub slots_is : refusal ≡ 0 → slots ≡ slots_in bytes
-  pub count_is : refusal ≡ 0 → count ≡ length (map_in bytes)
-  pub few : refusal ≡ 0 → count ≤ 65536
-  pub total_is : refusal ≡ 0 → total ≡ length (value_words (map_in bytes))
-  pub size_is : refusal ≡ 0 → length bytes ≡ 8 + 8 * count + 8 * total
+-- what an accepted file holds
+abbrev pub held_in : List ℕ → Held
+held_in bytes = record { slots = slots_in bytes; count = length (map_in bytes); total = length (value_words (map_in bytes)) }
+
+-- the test of a file, with what an accepted one tells
+pub record FileJudged (bytes : List ℕ) (r : Result Held Refusal) : Type 0 where
+  pub answer : r ≡ answered (file_refusal bytes) (held_in bytes)
+  pub few : (file : Held) → r ≡ Ok file → file.count ≤ 65536
+  pub size_is : (file : Held) → r ≡ Ok file → length bytes ≡ 8 + 8 * file.count + 8 * file.total

@@ -1,31 +1,39 @@
--- The answers of the builders: what is refused before the room is known, and a map of terms in its place.
+-- The answers of the builders: what is refused before the room is known, and the map of a call that is not.
 -- Assumes nothing.
-use Rattle.std.proofs.Common.{◌≡◌, ℕ, ◌*◌, ◌^◌, ◌≤◌, List, [], ◌∷◌, length, sym, ap, ◌∙◌, subst, one-mul, suc-ne-zero, arith, eq-eqb, ne_eqb}
+use Rattle.std.proofs.Common.{◌≡◌, ℕ, ◌*◌, ◌^◌, ◌≤◌, List, [], ◌∷◌, length, None, Some, Result, Ok, Err, sym, ap, ◌∙◌, subst, arith, eq-eqb, ne_eqb}
 use Prim.Native.Nat.{◌∣◌}
 use native.Mathlib.Nat.{dvd_trans}
+use Rattle.ring.specs.declared.refusal.Refusal.{Refusal}
+use Rattle.ring.specs.declared.refusal.Refusal.TheVariants.{Shift, Length}
 use Rattle.ring.specs.Slots.{modulus}
 use Rattle.ring.specs.Refusals.{pick, first_refusal}
-use Rattle.ring.specs.declared.Answer.{Answer}
-use Rattle.ring.specs.declared.Answer.TheVariants.{Refused}
-use Rattle.ring.specs.Laws.Refusals.{first_refused, first_later, not_outside}
+use Rattle.ring.specs.Laws.Refusals.{first_later, none_of_both, not_outside}
 use Rattle.ring.specs.Laws.Divisors.{divides_yes}
+use Rattle.ring.specs.Laws.Answers.{no_refused, same_value}
 use Rattle.diagonals.specs.SlotMaps.{slot_map}
 use Rattle.diagonals.specs.Calls.{map_room, MapWritten, period_refusals}
-use Rattle.diagonals.specs.Laws.Calls.{written_refused}
-use Rattle.diagonals.specs.Building.{PlacesOf, SumsOf}
+use Rattle.diagonals.specs.Laws.Calls.{still_refused, written_refused}
 use Rattle.maps.specs.declared.rules.Rule.{Rule}
-use Rattle.maps.specs.Readings.{rule_terms, whole_map}
-use Rattle.maps.specs.Calls.{no_matrices, rule_refusal, product_refusal, ProductWritten}
-use Rattle.maps.specs.Steps.Tiles.{Tiling, TilesJudged}
-use Rattle.maps.specs.Laws.Tiling.{some_squared, tiling, tiles_first, tiles_later}
-use Rattle.maps.specs.Sums.{period_of, product_map}
-use Rattle.maps.specs.Steps.Sums.{plain_rows, Outputs, SumsUpTo, product_refusals, ProductJudged}
 use Rattle.maps.specs.declared.rules.Product.{Product}
-use Rattle.maps.proofs.Summing.{PeriodIs, period_is, outputs_are, slot_inside, rows_same}
-use Rattle.maps.specs.Steps.Readings.{Ruled, rule_refusals, RuleJudged}
+use Rattle.maps.specs.declared.reads.Reads.{Reads}
+use Rattle.maps.specs.declared.publics.Sums.{Sums}
+use Rattle.maps.specs.declared.side.Side.{Side}
+use Rattle.maps.specs.Readings.{whole_map}
+use Rattle.maps.specs.Sums.{period_of, product_map}
+use Rattle.maps.specs.Calls.{tile_refusals, no_shift, no_matrices, rule_refusal, RuleWritten, ProductWritten}
+use Rattle.maps.specs.Steps.Tiles.{Tiles, Tiled}
+use Rattle.maps.specs.Steps.Building.{rows_upto, Built}
+use Rattle.maps.specs.Steps.Readings.{read_summand, rule_refusals, RuleTaken}
+use Rattle.maps.specs.Steps.Sums.{plain_summand, product_refusals, ProductTaken, ProductJudged}
+use Rattle.maps.specs.Steps.Shrinking.{Even, Shrank}
+use Rattle.maps.specs.Laws.Tiling.{side_pos, some_squared, tiling, tiles_of, same_refusal}
+use Rattle.maps.specs.Laws.SharedTerms.{period_divides, rule_even, rule_shrunk, rule_not_built}
+use Rattle.maps.specs.Laws.Narrow.{shrunk_refused}
+use Rattle.maps.proofs.Entering.{rows_read}
+use Rattle.maps.proofs.Summing.{period_is, rows_sum}
 
 -- a period of the slots
-pub period_accepted : (slots p : ℕ) → 1 ≤ slots → slots ≤ 65536 → 1 ≤ p → p ∣ slots → first_refusal (period_refusals slots p) ≡ 0
+period_accepted : (slots p : ℕ) → 1 ≤ slots → slots ≤ 65536 → 1 ≤ p → p ∣ slots → first_refusal (period_refusals slots p) ≡ None
 period_accepted slots p s l h d = rw (not_outside slots s l, ne_eqb p 0 (λ e. nonzero e), divides_yes p slots d)
   where
     nonzero : p ≡ 0 → ⊥
@@ -33,111 +41,78 @@ period_accepted slots p s l h d = rw (not_outside slots s l, ne_eqb p 0 (λ e. n
 
 -- ---- rules
 
-pub rule_refused : {slots log_d r : ℕ} {rule : Rule} (pairs values : List ℕ) → RuleJudged slots log_d rule r → (r ≡ 0 → ⊥)
-    → MapWritten (rule_refusal slots log_d rule pairs values) (whole_map modulus slots (2 ^ log_d) rule) pairs pairs values values (Refused r)
-rule_refused {slots} {log_d} {r} {rule} pairs values j n =
-    written_refused (j.answer ∙ sym (first_refused (rule_refusals slots log_d rule) (map_room (whole_map modulus slots (2 ^ log_d) rule) pairs values) (λ h. n (j.answer ∙ h)))) n
+module _ (slots l : ℕ) (rule : Rule) (pairs values : List ℕ) where
+  pub rule_refused : {x : Refusal} → first_refusal (rule_refusals slots l rule) ≡ Some x → RuleWritten slots l rule pairs pairs values values (Err x)
+  rule_refused e = shrunk_refused (still_refused (rule_refusals slots l rule) (map_room (whole_map modulus slots (2 ^ l) rule) pairs values) e)
 
-module _ {slots log_d d r : ℕ} {rule : Rule} (j : RuleJudged slots log_d rule r) (z : r ≡ 0) (s : d ≡ 2 ^ log_d) where
-  whole : whole_map modulus slots (2 ^ log_d) rule ≡ slot_map modulus slots (d * d) (rule_terms rule d)
+module _ {slots l : ℕ} {rule : Rule} {m : Reads} (t : RuleTaken slots l rule m) where
+  abbrev d : ℕ
+  d = 2 ^ m.side.log_d
+
+  tiles : Tiles slots l 1
+  tiles = tiles_of (none_of_both (tile_refusals slots l 1) ((no_shift l rule, Shift) ∷ []) t.none).0
+
+  pub rule_period : first_refusal (period_refusals slots (d * d)) ≡ None
+  rule_period = rw t.log_is (period_accepted slots (2 ^ l * 2 ^ l) tiles.low tiles.high (some_squared (side_pos l)) (period_divides tiles))
+
+  its_map : slot_map modulus slots (d * d) (rows_upto (λ t l. read_summand m.rule d t) 1 (d * d)) ≡ whole_map modulus slots (2 ^ l) rule
   unfolding whole_map
-  whole = rw (← s)
+  its_map = rw (t.rule_is, t.log_is) (ap (slot_map modulus slots (2 ^ l * 2 ^ l)) (rows_read rule (2 ^ l) (side_pos l)))
 
-  pub rule_room : (pairs values : List ℕ) → rule_refusal slots log_d rule pairs values ≡ first_refusal (map_room (slot_map modulus slots (d * d) (rule_terms rule d)) pairs values)
-  rule_room pairs values =
-      first_later (rule_refusals slots log_d rule) (map_room (whole_map modulus slots (2 ^ log_d) rule) pairs values) (suc-ne-zero 0, (suc-ne-zero 4, (suc-ne-zero 5, tt))) (sym j.answer ∙ z)
-      ∙ rw whole
+  module _ {p p₁ v v₁ : List ℕ} {a : Result ℕ Refusal} (b : Built modulus slots (d * d) (λ t l. read_summand m.rule d t) 1 p p₁ v v₁ a) where
+    rule_built : MapWritten (rule_refusal slots l rule p v) (whole_map modulus slots (2 ^ l) rule) p p₁ v v₁ a
+    rule_built = rw (first_later (rule_refusals slots l rule) (map_room (whole_map modulus slots (2 ^ l) rule) p v) t.none, ← its_map) b
 
-  pub rule_written : {e : ℕ} {pairs₀ pairs₁ values₀ values₁ : List ℕ} {a : Answer} → MapWritten e (slot_map modulus slots (d * d) (rule_terms rule d)) pairs₀ pairs₁ values₀ values₁ a
-      → MapWritten e (whole_map modulus slots (2 ^ log_d) rule) pairs₀ pairs₁ values₀ values₁ a
-  rule_written {e} {pairs₀} {pairs₁} {values₀} {values₁} {a} w = subst (λ ds. MapWritten e ds pairs₀ pairs₁ values₀ values₁ a) (sym whole) w
+    pub rule_no_room : {x : Refusal} → a ≡ Err x → RuleWritten slots l rule p p₁ v v₁ (Err x)
+    rule_no_room q = rule_not_built slots l rule rule_built q
 
-  pub is_ruled : Ruled slots d rule
-  is_ruled = rw s (j.ruled z)
+    module _ {n : ℕ} (q : a ≡ Ok n) where
+      pub rule_asked : Even slots (d * d) n p₁ v₁
+      rule_asked = rw t.log_is (rule_even slots l rule rule_built q)
 
-  pub rule_period : first_refusal (period_refusals slots (d * d)) ≡ 0
-  rule_period =
-      let t = is_ruled.tiles in
-      period_accepted slots (d * d) t.slots_some t.small (some_squared t.side_some) (subst (λ (n : ℕ). n ∣ slots) (one-mul (d * d)) t.divide)
+      pub rule_written : {p₂ v₂ : List ℕ} → Shrank (d * d) n p₁ p₂ v₁ v₂ → RuleWritten slots l rule p p₂ v v₂ (Ok n)
+      rule_written s = rule_shrunk slots l rule rule_built q (rw t.log_is at s)
 
 -- ---- products
 
-pub tiles_for : {slots log_d count r d : ℕ} → TilesJudged slots log_d count r → r ≡ 0 → d ≡ 2 ^ log_d → Tiling slots d count
-tiles_for t z s = rw s (tiling (t.tiles z))
+module _ (p : Product) (slots l count : ℕ) (b : List ℕ) where
+  pub product_tiles_refuse : {x : Refusal} → first_refusal (tile_refusals slots l count) ≡ Some x → ProductJudged p slots l count b (Err x)
+  product_tiles_refuse e =
+      let q : first_refusal (product_refusals slots l count b) ≡ Some _ = still_refused (tile_refusals slots l count) ((no_matrices l count b, Length) ∷ []) e in
+      record { refused = λ y h. q ∙ ap Some (same_refusal h); accepted = λ m h. no_refused h }
 
-pub tiles_refuse_product : {slots log_d count r : ℕ} (b : List ℕ) → TilesJudged slots log_d count r → (r ≡ 0 → ⊥) → ProductJudged slots log_d count b r
-tiles_refuse_product {slots} {log_d} {count} b t n =
-    record {
-      answer = tiles_first t ((no_matrices log_d count b, 7) ∷ []) n;
-      low = λ h. absurd (n h);
-      tiles = λ h. absurd (n h);
-      matrices = λ h. absurd (n h);
-    }
+  module _ {side : Side} (t : Tiled slots l count side) where
+    past_tiles : first_refusal (product_refusals slots l count b) ≡ pick (no_matrices l count b) Length None
+    past_tiles = first_later (tile_refusals slots l count) ((no_matrices l count b, Length) ∷ []) t.none
 
-module _ {slots log_d count r d : ℕ} (b : List ℕ) (t : TilesJudged slots log_d count r) (z : r ≡ 0) (s : d ≡ 2 ^ log_d) where
-  past_tiles : first_refusal (product_refusals slots log_d count b) ≡ pick (no_matrices log_d count b) 7 0
-  past_tiles = tiles_later t ((no_matrices log_d count b, 7) ∷ []) z
+    pub product_accepted : (m : Sums) → m.product ≡ p → m.side.log_d ≡ side.log_d → m.count ≡ count → m.b.now ≡ b → length b ≡ count * (2 ^ side.log_d * 2 ^ side.log_d) → ProductJudged p slots l count b (Ok m)
+    product_accepted m ep el ec eb e =
+        let z : first_refusal (product_refusals slots l count b) ≡ None = past_tiles ∙ rw (← t.log_is, eq-eqb _ _ e) in
+        record {
+          refused = λ x q. no_refused (sym q);
+          accepted = λ n q. subst (ProductTaken p slots l count b) (same_value q) (record { none = z; product_is = ep; log_is = el ∙ t.log_is; count_is = ec; words_are = eb });
+        }
 
-  pub matrices_refused : (length b ≡ count * (d * d) → ⊥) → ProductJudged slots log_d count b 7
-  matrices_refused n =
-      record {
-        answer = sym (past_tiles ∙ rw (← s, ne_eqb (length b) (count * (d * d)) n));
-        low = λ h. absurd (suc-ne-zero 6 h);
-        tiles = λ h. absurd (suc-ne-zero 6 h);
-        matrices = λ h. absurd (suc-ne-zero 6 h);
-      }
+module _ (p : Product) (slots l count : ℕ) (b pairs values : List ℕ) where
+  pub product_refused : {x : Refusal} → first_refusal (product_refusals slots l count b) ≡ Some x → ProductWritten slots l count p b pairs pairs values values (Err x)
+  product_refused e = written_refused (still_refused (product_refusals slots l count b) (map_room (product_map modulus slots (2 ^ l) count p b) pairs values) e)
 
-  pub product_accepted : length b ≡ count * (d * d) → ProductJudged slots log_d count b 0
-  product_accepted e =
-      record {
-        answer = sym (past_tiles ∙ rw (← s, eq-eqb (length b) (count * (d * d)) e));
-        low = λ _. (t.tiles z).log_low;
-        tiles = λ _. tiling (t.tiles z);
-        matrices = λ _. rw (← s) e;
-      }
+module _ {p : Product} {slots l count : ℕ} {b : List ℕ} {m : Sums} (t : ProductTaken p slots l count b m) where
+  abbrev side : ℕ
+  side = 2 ^ m.side.log_d
 
-pub product_refused : {slots log_d count r : ℕ} {b : List ℕ} (p : Product) (pairs values : List ℕ) → ProductJudged slots log_d count b r → (r ≡ 0 → ⊥)
-    → ProductWritten slots log_d count p b pairs pairs values values (Refused r)
-product_refused {slots} {log_d} {count} {r} {b} p pairs values j n =
-    written_refused (j.answer ∙ sym (first_refused (product_refusals slots log_d count b) (map_room (product_map modulus slots (2 ^ log_d) count p b) pairs values) (λ h. n (j.answer ∙ h)))) n
+  product_tiles : Tiles slots l count
+  product_tiles = tiles_of (none_of_both (tile_refusals slots l count) ((no_matrices l count b, Length) ∷ []) t.none).0
 
-pub product_tiles : {slots log_d count r d : ℕ} {b : List ℕ} → ProductJudged slots log_d count b r → r ≡ 0 → d ≡ 2 ^ log_d → Tiling slots d count
-product_tiles j z s = rw s (j.tiles z)
+  pub product_period : first_refusal (period_refusals slots (period_of m.product side m.count)) ≡ None
+  product_period =
+      let q = period_is (tiling product_tiles) p in
+      rw (t.product_is, t.log_is, t.count_is) (period_accepted slots (period_of p (2 ^ l) count) product_tiles.low product_tiles.high q.some (dvd_trans _ q.divide product_tiles.divides))
 
-module _ {slots log_d count r d period : ℕ} {b : List ℕ} (p : Product) (j : ProductJudged slots log_d count b r) (z : r ≡ 0) (s : d ≡ 2 ^ log_d) (q : period ≡ period_of p d count) where
-  round_tiles : Tiling slots d count
-  round_tiles = product_tiles j z s
-
-  its_period : PeriodIs d count period
-  its_period = rw q (period_is round_tiles p)
-
-  pub product_outputs : Outputs slots d period
-  product_outputs = outputs_are round_tiles its_period
-
-  pub product_period : first_refusal (period_refusals slots period) ≡ 0
-  product_period = period_accepted slots period round_tiles.slots_some round_tiles.small its_period.some (dvd_trans period its_period.divide round_tiles.divide)
-
-  whole_product : product_map modulus slots (2 ^ log_d) count p b ≡ slot_map modulus slots period (plain_rows p d b period)
+  its_product : slot_map modulus slots (period_of m.product side m.count) (rows_upto (λ t l. Some (plain_summand m.product side m.b.now t l)) side (period_of m.product side m.count)) ≡ product_map modulus slots (2 ^ l) count p b
   unfolding product_map
-  whole_product =
-      rw (← s, ← q)
-      (ap (slot_map modulus slots period) (sym (rows_same round_tiles its_period p b)))
+  its_product = rw (t.product_is, t.log_is, t.count_is, t.words_are) (ap (slot_map modulus slots (period_of p (2 ^ l) count)) (rows_sum p (2 ^ l) count b (side_pos l)))
 
-  pub product_room : (pairs values : List ℕ) → product_refusal slots log_d count p b pairs values ≡ first_refusal (map_room (slot_map modulus slots period (plain_rows p d b period)) pairs values)
-  product_room pairs values =
-      first_later (product_refusals slots log_d count b) (map_room (product_map modulus slots (2 ^ log_d) count p b) pairs values) (suc-ne-zero 0, (suc-ne-zero 4, (suc-ne-zero 6, tt))) (sym j.answer ∙ z)
-      ∙ rw whole_product
-
-  pub product_written : {e : ℕ} {pairs₀ pairs₁ values₀ values₁ : List ℕ} {a : Answer} → MapWritten e (slot_map modulus slots period (plain_rows p d b period)) pairs₀ pairs₁ values₀ values₁ a
-      → MapWritten e (product_map modulus slots (2 ^ log_d) count p b) pairs₀ pairs₁ values₀ values₁ a
-  product_written {e} {pairs₀} {pairs₁} {values₀} {values₁} {a} w = subst (λ ds. MapWritten e ds pairs₀ pairs₁ values₀ values₁ a) (sym whole_product) w
-
-  pub product_summing : {places values : List ℕ} → PlacesOf slots (plain_rows p d b period) places → SumsOf modulus slots period (plain_rows p d b period) [] values values
-      → SumsUpTo p slots d period 0 b places values values
-  product_summing a w =
-      record {
-        outputs = product_outputs;
-        matrices = λ u l. rw (j.matrices z, ← s) (slot_inside round_tiles its_period u l);
-        placed = a;
-        sums = w;
-      }
+  pub product_written : {pairs₀ pairs₁ values₀ values₁ : List ℕ} {a : Result ℕ Refusal} → Built modulus slots (period_of m.product side m.count) (λ t l. Some (plain_summand m.product side m.b.now t l)) side pairs₀ pairs₁ values₀ values₁ a
+      → ProductWritten slots l count p b pairs₀ pairs₁ values₀ values₁ a
+  product_written {pairs₀} {values₀} w = rw (first_later (product_refusals slots l count b) (map_room (product_map modulus slots (2 ^ l) count p b) pairs₀ values₀) t.none, ← its_product) w

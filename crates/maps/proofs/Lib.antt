@@ -1,4 +1,5 @@
 -- Laws that several proofs cite.
+pub mod Walks
 pub mod Entering
 pub mod Summing
 pub mod Answering

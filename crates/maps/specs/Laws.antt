@@ -8,6 +8,7 @@ pub mod Rotations
 pub mod Replicated
 pub mod Values
 pub mod Tiling
+pub mod Refusing
 pub mod Rows
 pub mod Skewing
 pub mod Blocks

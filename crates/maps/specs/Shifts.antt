@@ -1,10 +1,11 @@
 -- Document 02, A2: what the two rotations read, and their calls as document 01 had them, for "Shifts up to d give the map that
 -- they gave". `Laws/Shifts` has what is proved.
 -- Assumes nothing.
-use Rattle.std.specs.Prelude.{ℕ, ◌+◌, ◌*◌, ◌%◌, ◌^◌, Bool, true, false, List, [], ◌∷◌, ◌++◌, nat_lt}
+use Rattle.std.specs.Prelude.{ℕ, ◌+◌, ◌*◌, ◌%◌, ◌^◌, Bool, true, false, List, [], ◌∷◌, ◌++◌, nat_lt, Option, Result}
+use Rattle.ring.specs.declared.refusal.Refusal.{Refusal}
+use Rattle.ring.specs.declared.refusal.Refusal.TheVariants.{Shift}
 use Rattle.ring.specs.Slots.{modulus}
 use Rattle.ring.specs.Refusals.{first_refusal}
-use Rattle.ring.specs.declared.Answer.{Answer}
 use Rattle.diagonals.specs.Maps.{Diagonal}
 use Rattle.diagonals.specs.SlotMaps.{slot_map}
 use Rattle.diagonals.specs.Calls.{map_room}
@@ -31,10 +32,10 @@ abbrev pub map_before : ℕ → ℕ → ℕ → Bool → ℕ → List Diagonal
 map_before m slots d rows k = slot_map m slots (d * d) (terms_by (λ r c. further_on rows k d (record { row = r; col = c }) ∷ []) d)
 
 -- and the call
-abbrev pub refusal_before : ℕ → ℕ → Bool → ℕ → List ℕ → List ℕ → ℕ
+abbrev pub refusal_before : ℕ → ℕ → Bool → ℕ → List ℕ → List ℕ → Option Refusal
 refusal_before slots log_d rows k pairs values =
-    first_refusal (tile_refusals slots log_d 1 ++ (nat_lt (2 ^ log_d) k, 6) ∷ map_room (map_before modulus slots (2 ^ log_d) rows k) pairs values)
+    first_refusal (tile_refusals slots log_d 1 ++ (nat_lt (2 ^ log_d) k, Shift) ∷ map_room (map_before modulus slots (2 ^ log_d) rows k) pairs values)
 
-abbrev pub WrittenBefore : ℕ → ℕ → Bool → ℕ → List ℕ → List ℕ → List ℕ → List ℕ → Answer → Type 0
+abbrev pub WrittenBefore : ℕ → ℕ → Bool → ℕ → List ℕ → List ℕ → List ℕ → List ℕ → Result ℕ Refusal → Type 0
 WrittenBefore slots log_d rows k pairs₀ pairs₁ values₀ values₁ r =
     ShrunkWritten (refusal_before slots log_d rows k pairs₀ values₀) (map_before modulus slots (2 ^ log_d) rows k) pairs₀ pairs₁ values₀ values₁ r

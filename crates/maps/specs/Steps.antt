@@ -3,5 +3,6 @@ pub mod Tiles
 pub mod Rows
 pub mod Values
 pub mod Shrinking
+pub mod Building
 pub mod Readings
 pub mod Sums

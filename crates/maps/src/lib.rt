@@ -2,12 +2,16 @@
 // document 01.
 #![tactic(auto)]
 
+mod building;
 mod named;
 mod per_matrix;
+mod publics;
 mod readings;
+mod reads;
 mod replicated;
 mod rules;
 mod shrinking;
+mod side;
 mod sums;
 mod tiles;
 mod values;

@@ -1,26 +1,43 @@
 // The maps that read one entry or none, under their names in poulpy. Each is one call of `rule_map`.
+// Kept: these are the names that C calls, and C passes the numbers and the two buffers one by one.
 ghost use Rattle.maps.specs.declared.rules.Rule.TheVariants.{Sigma, Tau, Transpose, RotateRows, RotateCols, RowsUpper, RowsLower, ColsLeft, ColsRight, RowsLeft, RowsRight};
 ghost use Rattle.maps.specs.Calls.{RuleWritten};
 
 use crate::readings::rule_map;
 use crate::rules::Rule;
+use ring::Refusal;
 
 // JKLS sigma: output (r, c) reads (r, r + c mod d).
-pub fn sigma(slots: usize, log_d: usize, pairs: &mut [u32], values: &mut [u64]) -> ring::Answer
+pub fn sigma(
+    slots: usize,
+    log_d: usize,
+    pairs: &mut [u32],
+    values: &mut [u64],
+) -> Result<usize, Refusal>
     ensures { RuleWritten slots log_d Sigma pairs.old pairs.new values.old values.new result }
 {
     rule_map(Rule::Sigma, slots, log_d, pairs, values)
 }
 
 // JKLS tau: output (r, c) reads (r + c mod d, c).
-pub fn tau(slots: usize, log_d: usize, pairs: &mut [u32], values: &mut [u64]) -> ring::Answer
+pub fn tau(
+    slots: usize,
+    log_d: usize,
+    pairs: &mut [u32],
+    values: &mut [u64],
+) -> Result<usize, Refusal>
     ensures { RuleWritten slots log_d Tau pairs.old pairs.new values.old values.new result }
 {
     rule_map(Rule::Tau, slots, log_d, pairs, values)
 }
 
 // Output (r, c) reads (c, r).
-pub fn transpose(slots: usize, log_d: usize, pairs: &mut [u32], values: &mut [u64]) -> ring::Answer
+pub fn transpose(
+    slots: usize,
+    log_d: usize,
+    pairs: &mut [u32],
+    values: &mut [u64],
+) -> Result<usize, Refusal>
     ensures { RuleWritten slots log_d Transpose pairs.old pairs.new values.old values.new result }
 {
     rule_map(Rule::Transpose, slots, log_d, pairs, values)
@@ -33,7 +50,7 @@ pub fn rotate_rows(
     k: usize,
     pairs: &mut [u32],
     values: &mut [u64],
-) -> ring::Answer
+) -> Result<usize, Refusal>
     ensures { RuleWritten slots log_d (RotateRows k) pairs.old pairs.new values.old values.new result }
 {
     rule_map(Rule::RotateRows { k: k }, slots, log_d, pairs, values)
@@ -46,7 +63,7 @@ pub fn rotate_cols(
     k: usize,
     pairs: &mut [u32],
     values: &mut [u64],
-) -> ring::Answer
+) -> Result<usize, Refusal>
     ensures { RuleWritten slots log_d (RotateCols k) pairs.old pairs.new values.old values.new result }
 {
     rule_map(Rule::RotateCols { k: k }, slots, log_d, pairs, values)
@@ -59,7 +76,7 @@ pub fn rows_upper(
     k: usize,
     pairs: &mut [u32],
     values: &mut [u64],
-) -> ring::Answer
+) -> Result<usize, Refusal>
     ensures { RuleWritten slots log_d (RowsUpper k) pairs.old pairs.new values.old values.new result }
 {
     rule_map(Rule::RowsUpper { k: k }, slots, log_d, pairs, values)
@@ -72,7 +89,7 @@ pub fn rows_lower(
     k: usize,
     pairs: &mut [u32],
     values: &mut [u64],
-) -> ring::Answer
+) -> Result<usize, Refusal>
     ensures { RuleWritten slots log_d (RowsLower k) pairs.old pairs.new values.old values.new result }
 {
     rule_map(Rule::RowsLower { k: k }, slots, log_d, pairs, values)
@@ -85,7 +102,7 @@ pub fn cols_left(
     k: usize,
     pairs: &mut [u32],
     values: &mut [u64],
-) -> ring::Answer
+) -> Result<usize, Refusal>
     ensures { RuleWritten slots log_d (ColsLeft k) pairs.old pairs.new values.old values.new result }
 {
     rule_map(Rule::ColsLeft { k: k }, slots, log_d, pairs, values)
@@ -98,7 +115,7 @@ pub fn cols_right(
     k: usize,
     pairs: &mut [u32],
     values: &mut [u64],
-) -> ring::Answer
+) -> Result<usize, Refusal>
     ensures { RuleWritten slots log_d (ColsRight k) pairs.old pairs.new values.old values.new result }
 {
     rule_map(Rule::ColsRight { k: k }, slots, log_d, pairs, values)
@@ -111,7 +128,7 @@ pub fn rows_left(
     k: usize,
     pairs: &mut [u32],
     values: &mut [u64],
-) -> ring::Answer
+) -> Result<usize, Refusal>
     ensures { RuleWritten slots log_d (RowsLeft k) pairs.old pairs.new values.old values.new result }
 {
     rule_map(Rule::RowsLeft { k: k }, slots, log_d, pairs, values)
@@ -124,7 +141,7 @@ pub fn rows_right(
     k: usize,
     pairs: &mut [u32],
     values: &mut [u64],
-) -> ring::Answer
+) -> Result<usize, Refusal>
     ensures { RuleWritten slots log_d (RowsRight k) pairs.old pairs.new values.old values.new result }
 {
     rule_map(Rule::RowsRight { k: k }, slots, log_d, pairs, values)

@@ -1,7 +1,10 @@
 // The map of terms that every matrix slot shares.
 ghost use Rattle.maps.specs.Calls.{PerMatrixWritten};
 
+use ring::Refusal;
+
 // The slot map of the terms at period d², shrunk: pairs and values need room for it before that.
+// Kept: C passes the terms as three lists.
 pub fn per_matrix_map(
     slots: usize,
     log_d: usize,
@@ -10,20 +13,11 @@ pub fn per_matrix_map(
     ws: &[u64],
     pairs: &mut [u32],
     values: &mut [u64],
-) -> ring::Answer
+) -> Result<usize, Refusal>
     ensures { PerMatrixWritten slots log_d is.now js.now ws.now pairs.old pairs.new values.old values.new result }
 {
-    let code = crate::tiles::tiles_refusal(slots, log_d, 1);
-    if code != 0 {
-        return ring::Answer::Refused(code);
-    }
-    let d = crate::tiles::side(log_d);
-    let period = d * d;
-    match diagonals::from_slot_map(slots, period, is, js, ws, pairs, values) {
-        ring::Answer::Refused(e) => ring::Answer::Refused(e),
-        ring::Answer::Is(count) => {
-            crate::shrinking::shrink_in_place(slots, period, count, pairs, values);
-            ring::Answer::Is(count)
-        }
-    }
+    let period = crate::tiles::check_tiles(slots, log_d, 1)?.size();
+    let count = diagonals::from_slot_map(slots, period, is, js, ws, pairs, values)?;
+    crate::shrinking::shrink_in_place(slots, period, count, pairs, values);
+    Ok(count)
 }

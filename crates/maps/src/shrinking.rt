@@ -5,6 +5,7 @@ ghost use Rattle.diagonals.specs.Maps.{pair_room, offset_at};
 ghost use Rattle.maps.specs.Steps.Rows.{row_pairs};
 ghost use Rattle.maps.specs.Steps.Shrinking.{Even, Shrank, Narrowing, moved_at};
 
+// Kept: by their number, since only the store knows where the words of a pair stand.
 fn write_lengths(count: usize, p: usize, pairs: &mut [u32])
     requires p_bound { p ≤ 65536 }
     requires count_in_bounds { pair_room count ≤ length pairs.old }
@@ -16,13 +17,14 @@ fn write_lengths(count: usize, p: usize, pairs: &mut [u32])
     }
 }
 
-// The first p of every `period` values, back to back. A word is read before it is written.
+// The first p of every `period` values, back to back.
 fn move_rows(period: usize, p: usize, count: usize, values: &mut [u64])
     requires { Narrowing period p count values.old }
     ensures { values.new ≡ filled (moved_at period p values.old) (count * p) values.old }
 {
-    for x in 0..count * p {
-        values[x] = values[x / p * period + x % p];
+    for i in 0..count {
+        let from = i * period;
+        values.copy_within(from..from + p, i * p);
     }
 }
 
@@ -37,7 +39,7 @@ pub(crate) fn shrink_in_place(
     requires { Even slots period count pairs.old values.old }
     ensures { Shrank period count pairs.old pairs.new values.old values.new }
 {
-    let ring::Answer::Is(p) = diagonals::shrunk_period(slots, count, pairs, values) else {
+    let Ok(p) = diagonals::shrunk_period(slots, count, pairs, values) else {
         return;
     };
     if p == period {

@@ -1,147 +1,151 @@
 // Skewed values, products by slot vectors and projections.
-ghost use Rattle.std.specs.Prelude.{◌≡◌, ◌*◌, ◌^◌, ◌<◌, ◌≤◌, true, false, length, if◌then◌else◌};
+ghost use Rattle.std.specs.Prelude.{◌≡◌, ◌*◌, ◌^◌, ◌<◌, ◌≤◌, true, false, length};
 ghost use Rattle.std.specs.Int.{◌∣◌};
-ghost use Rattle.ring.specs.Vectors.{filled};
+ghost use Rattle.ring.specs.Vectors.{tabulate};
 ghost use Rattle.maps.specs.Values.{first_row, first_col};
 ghost use Rattle.maps.specs.Calls.{ValuesWritten, SlotProductWritten, TiledWritten};
 ghost use Rattle.maps.specs.Steps.Rows.{ones};
-ghost use Rattle.maps.specs.Steps.Values.{skewed_place, skewed_at, ValuesJudged, OnesWritten};
+ghost use Rattle.maps.specs.Steps.Values.{turns_rows, skewed_place, skewed_at, ValuesJudged, OnesWritten};
 
-// Where the skewed entry of slot t stands.
-fn skewed_place(rows: bool, log_d: usize, t: usize) -> usize
-    requires log_d_bound { log_d ≤ 8 }
-    requires t_bound { t < 65536 }
-    ensures { result ≡ skewed_place rows (2 ^ log_d) t }
-{
-    let d = crate::tiles::side(log_d);
-    let size = d * d;
-    let start = t / size * size;
-    let row = t / d % d;
-    let col = t % d;
-    let turned = (row + col) % d;
-    if rows {
-        return start + (turned * d + col);
-    }
-    start + (row * d + turned)
+use crate::side::Side;
+use ring::Refusal;
+
+// What a skew turns: the row of an entry by its column, or the column by its row.
+#[derive(Clone, Copy)]
+enum Skew {
+    Rows,
+    Columns,
 }
 
-fn write_skewed(rows: bool, log_d: usize, b: &[u64], out: &mut [u64])
-    requires log_d_bound { log_d ≤ 8 }
-    requires fact { 2 ^ log_d * 2 ^ log_d ∣ length b.now }
+impl Skew {
+    // Where the skewed entry of slot t stands.
+    fn place(self, side: Side, t: usize) -> usize
+        requires { t < 65536 }
+        ensures { result ≡ skewed_place (turns_rows self) (2 ^ side.log_d) t }
+    {
+        let d = side.rows();
+        let size = side.size();
+        let start = t / size * size;
+        let row = t / d % d;
+        let col = t % d;
+        let turned = (row + col) % d;
+        match self {
+            Skew::Rows => start + (turned * d + col),
+            Skew::Columns => start + (row * d + turned),
+        }
+    }
+}
+
+fn write_skewed(skew: Skew, side: Side, b: &[u64], out: &mut [u64])
+    requires fact { 2 ^ side.log_d * 2 ^ side.log_d ∣ length b.now }
     requires b_len_bound { length b.now ≤ 65536 }
-    requires b_in_bounds { length b.now ≤ length out.old }
-    ensures { out.new ≡ filled (skewed_at rows (2 ^ log_d) b.now) (length b.now) out.old }
+    requires out_len { length out.old ≡ length b.now }
+    ensures { out.new ≡ tabulate (length out.old) (skewed_at (turns_rows skew) (2 ^ side.log_d) b.now) }
 {
-    for t in 0..b.len() {
-        out[t] = b[skewed_place(rows, log_d, t)];
+    for (t, value) in out.iter_mut().enumerate() {
+        *value = b[skew.place(side, t)];
     }
 }
 
-// 5 where the matrices are too large or none, 7 where b is not all of them, else 0.
-fn values_refusal(log_d: usize, count: usize, len: usize) -> u32
+// The side of `count` matrices in a list of so many words. Refuses with 5 matrices that are too large
+// or none, with 7 a list that is not as long as they.
+fn check_values(log_d: usize, count: usize, len: usize) -> Result<Side, Refusal>
     ensures { ValuesJudged log_d count len result }
 {
-    if 8 < log_d {
-        return 5;
+    if 8 < log_d || count == 0 || 65536 < count {
+        return Err(Refusal::Matrices);
     }
-    if count == 0 {
-        return 5;
-    }
-    if 65536 < count {
-        return 5;
-    }
-    let d = crate::tiles::side(log_d);
-    let total = count * (d * d);
+    let side = Side { log_d };
+    let total = count * side.size();
     if 65536 < total {
-        return 5;
+        return Err(Refusal::Matrices);
     }
     if len != total {
-        return 7;
+        return Err(Refusal::Length);
     }
-    0
+    Ok(side)
 }
 
-fn skewed_values(rows: bool, log_d: usize, count: usize, b: &[u64], out: &mut [u64]) -> ring::Answer
-    ensures { ValuesWritten rows log_d count b.now out.old out.new result }
+fn skewed_values(
+    skew: Skew,
+    log_d: usize,
+    count: usize,
+    b: &[u64],
+    out: &mut [u64],
+) -> Result<usize, Refusal>
+    ensures { ValuesWritten (turns_rows skew) log_d count b.now out.old out.new result }
 {
-    let code = values_refusal(log_d, count, b.len());
-    if code != 0 {
-        return ring::Answer::Refused(code);
-    }
+    let side = check_values(log_d, count, b.len())?;
     if out.len() < b.len() {
-        return ring::Answer::Refused(12);
+        return Err(Refusal::Room);
     }
-    write_skewed(rows, log_d, b, out);
-    ring::Answer::Is(b.len())
+    write_skewed(skew, side, b, &mut out[..b.len()]);
+    Ok(b.len())
 }
 
 // Tau of public matrices: entry (r, c) is b's at ((r + c) mod d, c).
-pub fn tau_values(log_d: usize, count: usize, b: &[u64], out: &mut [u64]) -> ring::Answer
+// Kept: these two are the names that C calls, each one call of `skewed_values`.
+pub fn tau_values(log_d: usize, count: usize, b: &[u64], out: &mut [u64]) -> Result<usize, Refusal>
     ensures { ValuesWritten true log_d count b.now out.old out.new result }
 {
-    skewed_values(true, log_d, count, b, out)
+    skewed_values(Skew::Rows, log_d, count, b, out)
 }
 
 // Sigma of public matrices: entry (r, c) is b's at (r, (r + c) mod d).
-pub fn sigma_values(log_d: usize, count: usize, b: &[u64], out: &mut [u64]) -> ring::Answer
+pub fn sigma_values(
+    log_d: usize,
+    count: usize,
+    b: &[u64],
+    out: &mut [u64],
+) -> Result<usize, Refusal>
     ensures { ValuesWritten false log_d count b.now out.old out.new result }
 {
-    skewed_values(false, log_d, count, b, out)
+    skewed_values(Skew::Columns, log_d, count, b, out)
 }
 
-pub(crate) fn one_if(test: bool) -> u64
-    ensures { result ≡ (if test then 1 else 0) }
+fn write_ones(n: usize, out: &mut [u64])
+    ensures { out.new ≡ tabulate (length out.old) (ones n) }
 {
-    if test {
-        return 1;
-    }
-    0
-}
-
-fn write_ones(n: usize, len: usize, values: &mut [u64])
-    requires { len ≤ length values.old }
-    ensures { values.new ≡ filled (ones n) len values.old }
-{
-    for t in 0..len {
-        values[t] = one_if(t < n);
+    for (t, value) in out.iter_mut().enumerate() {
+        *value = (t < n) as u64;
     }
 }
 
 // One diagonal at offset 0 of `len` values, the first n of them 1 and the others 0.
-fn project(n: usize, len: usize, pairs: &mut [u32], values: &mut [u64]) -> ring::Answer
+fn project(n: usize, len: usize, pairs: &mut [u32], values: &mut [u64]) -> Result<usize, Refusal>
     requires { len ≤ 65536 }
     ensures { OnesWritten n len pairs.old pairs.new values.old values.new result }
 {
-    let room = diagonals::room_refusal(1, len, pairs.len(), values.len());
-    if room != 0 {
-        return ring::Answer::Refused(room);
-    }
+    diagonals::check_room(1, len, pairs.len(), values.len())?;
     diagonals::put_pair(pairs, 0, 0, len as u32);
-    write_ones(n, len, values);
-    ring::Answer::Is(1)
+    write_ones(n, &mut values[..len]);
+    Ok(1)
 }
 
 // The projection on row 0, stored at d².
-pub fn first_row(slots: usize, log_d: usize, pairs: &mut [u32], values: &mut [u64]) -> ring::Answer
+pub fn first_row(
+    slots: usize,
+    log_d: usize,
+    pairs: &mut [u32],
+    values: &mut [u64],
+) -> Result<usize, Refusal>
     ensures { TiledWritten slots log_d (first_row (2 ^ log_d)) pairs.old pairs.new values.old values.new result }
 {
-    let code = crate::tiles::tiles_refusal(slots, log_d, 1);
-    if code != 0 {
-        return ring::Answer::Refused(code);
-    }
-    let d = crate::tiles::side(log_d);
-    project(d, d * d, pairs, values)
+    let side = crate::tiles::check_tiles(slots, log_d, 1)?;
+    project(side.rows(), side.size(), pairs, values)
 }
 
 // The projection on column 0, stored at d.
-pub fn first_col(slots: usize, log_d: usize, pairs: &mut [u32], values: &mut [u64]) -> ring::Answer
+pub fn first_col(
+    slots: usize,
+    log_d: usize,
+    pairs: &mut [u32],
+    values: &mut [u64],
+) -> Result<usize, Refusal>
     ensures { TiledWritten slots log_d (first_col (2 ^ log_d)) pairs.old pairs.new values.old values.new result }
 {
-    let code = crate::tiles::tiles_refusal(slots, log_d, 1);
-    if code != 0 {
-        return ring::Answer::Refused(code);
-    }
-    project(1, crate::tiles::side(log_d), pairs, values)
+    let side = crate::tiles::check_tiles(slots, log_d, 1)?;
+    project(1, side.rows(), pairs, values)
 }
 
 // The product by the slot vector v rotated: one diagonal at offset 0.
@@ -151,24 +155,18 @@ pub fn slot_product(
     rotation: i64,
     pairs: &mut [u32],
     values: &mut [u64],
-) -> ring::Answer
+) -> Result<usize, Refusal>
     ensures { SlotProductWritten slots v.now rotation pairs.old pairs.new values.old values.new result }
 {
     if ring::is_outside(slots) {
-        return ring::Answer::Refused(1);
+        return Err(Refusal::Slots);
     }
     let n = v.len();
-    if n == 0 {
-        return ring::Answer::Refused(4);
+    if n == 0 || slots % n != 0 {
+        return Err(Refusal::Period);
     }
-    if slots % n != 0 {
-        return ring::Answer::Refused(4);
-    }
-    let room = diagonals::room_refusal(1, n, pairs.len(), values.len());
-    if room != 0 {
-        return ring::Answer::Refused(room);
-    }
+    diagonals::check_room(1, n, pairs.len(), values.len())?;
     diagonals::put_pair(pairs, 0, 0, n as u32);
-    diagonals::rotate_slots_into(v, rotation, &mut values[..n]);
-    ring::Answer::Is(1)
+    diagonals::rotate_slots_into(v, rotation, &mut values[..n])?;
+    Ok(1)
 }

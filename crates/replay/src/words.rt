@@ -1,102 +1,68 @@
-// The words of a call. A word that is not there is 0, and a list ends where the words end, so that no
-// caller has an index or a length to prove.
-use crate::numbers::signed;
+// The words of a call, read one after the other.
+use std::alloc::{AllocError, Global};
 
-pub(crate) fn word_at(words: &[u64], at: usize) -> u64 {
-    if words.len() <= at {
-        return 0;
-    }
-    words[at]
-}
-
-// The first words of a call or of a map: w as they are, i signed, n as sizes.
+// A word that is not there is 0, and a list ends where the words end.
 #[derive(Clone, Copy)]
-pub(crate) struct Head {
-    pub(crate) w0: u64,
-    pub(crate) w1: u64,
-    pub(crate) i0: i64,
-    pub(crate) n0: usize,
-    pub(crate) n1: usize,
-    pub(crate) n2: usize,
-    pub(crate) n3: usize,
-    pub(crate) n4: usize,
-    pub(crate) n5: usize,
-    pub(crate) n6: usize,
+pub(crate) struct Words<'a> {
+    rest: &'a [u64],
 }
 
-fn size_at(words: &[u64], at: usize) -> usize {
-    word_at(words, at) as usize
-}
+impl<'a> Words<'a> {
+    pub(crate) fn new(rest: &'a [u64]) -> Self {
+        Words { rest }
+    }
 
-pub(crate) fn head_of(words: &[u64]) -> Head {
-    Head {
-        w0: word_at(words, 0),
-        w1: word_at(words, 1),
-        i0: signed(word_at(words, 0)),
-        n0: size_at(words, 0),
-        n1: size_at(words, 1),
-        n2: size_at(words, 2),
-        n3: size_at(words, 3),
-        n4: size_at(words, 4),
-        n5: size_at(words, 5),
-        n6: size_at(words, 6),
+    pub(crate) fn word(&mut self) -> u64 {
+        match self.rest.split_first() {
+            Some((word, rest)) => {
+                self.rest = rest;
+                *word
+            }
+            None => 0,
+        }
+    }
+
+    pub(crate) fn size(&mut self) -> usize {
+        self.word() as usize
+    }
+
+    // The number whose two's complement is the word.
+    pub(crate) fn signed(&mut self) -> i64 {
+        self.word().cast_signed()
+    }
+
+    pub(crate) fn narrow(&mut self) -> u32 {
+        narrow(self.word())
+    }
+
+    pub(crate) fn list(&mut self, n: usize) -> &'a [u64] {
+        let (list, rest) = self.rest.split_at(n.min(self.rest.len()));
+        self.rest = rest;
+        list
+    }
+
+    pub(crate) fn rest(&self) -> &'a [u64] {
+        self.rest
     }
 }
 
-// The words from `at` on.
-pub(crate) fn rest(words: &[u64], at: usize) -> &[u64] {
-    if words.len() < at {
-        return &words[..0];
-    }
-    &words[at..]
+fn narrow(word: u64) -> u32 {
+    (word & 0xffff_ffff) as u32
 }
 
-// The first n words, here and below.
-pub(crate) fn front(words: &[u64], n: usize) -> &[u64] {
-    if words.len() < n {
-        return words;
-    }
-    &words[0..n]
+pub(crate) fn narrowed(alloc: Global, words: &[u64]) -> Result<Vec<u32>, AllocError> {
+    words.iter().map(|&word| narrow(word)).collect(alloc)
 }
 
-pub(crate) fn narrow_front(words: &[u32], n: usize) -> &[u32] {
-    if words.len() < n {
-        return words;
-    }
-    &words[0..n]
+pub(crate) fn bytes_of(alloc: Global, words: &[u64]) -> Result<Vec<u8>, AllocError> {
+    words.iter().map(|&word| (word & 0xff) as u8).collect(alloc)
 }
 
-pub(crate) fn byte_front(bytes: &[u8], n: usize) -> &[u8] {
-    if bytes.len() < n {
-        return bytes;
-    }
-    &bytes[0..n]
+pub(crate) fn all_signed(alloc: Global, words: &[u64]) -> Result<Vec<i64>, AllocError> {
+    words.iter().map(|&word| word.cast_signed()).collect(alloc)
 }
 
-pub(crate) fn signed_front(words: &[i64], n: usize) -> &[i64] {
-    if words.len() < n {
-        return words;
-    }
-    &words[0..n]
-}
-
-pub(crate) fn lent(out: &mut [u64], n: usize) -> &mut [u64] {
-    if out.len() < n {
-        return out;
-    }
-    &mut out[0..n]
-}
-
-pub(crate) fn narrow_lent(out: &mut [u32], n: usize) -> &mut [u32] {
-    if out.len() < n {
-        return out;
-    }
-    &mut out[0..n]
-}
-
-pub(crate) fn byte_lent(out: &mut [u8], n: usize) -> &mut [u8] {
-    if out.len() < n {
-        return out;
-    }
-    &mut out[0..n]
+// A lent buffer of n words, of which the program has 512 at most.
+pub(crate) fn lent<T: Copy>(alloc: Global, n: usize, held: T) -> Result<Vec<T>, AllocError> {
+    vec![in alloc; held; n.min(512)]
 }

@@ -1,72 +1,49 @@
 // Slot arithmetic modulo 2^64, residues and periods (poulpy's diagonals.rs, and gcd_i64 of
-// linear_transformation.rs). Numbers of refusals are those of document 01.
+// linear_transformation.rs). Refusals are those of document 01.
 #![tactic(auto)]
 
-ghost use Rattle.std.specs.Prelude.{◌≡◌, ◌%◌, ◌≤◌, min, length};
+mod refusal;
+
+ghost use Rattle.std.specs.Prelude.{◌≡◌, ◌%◌, ◌≤◌, length};
 ghost use Rattle.std.specs.Int.Signed.{mag};
 ghost use Rattle.ring.specs.Slots.{modulus, mulm};
 ghost use Rattle.ring.specs.Vectors.{tabulate};
 ghost use Rattle.ring.specs.Residues.{residue_of};
+ghost use Rattle.ring.specs.Refusals.{Range};
 ghost use Rattle.ring.specs.Answers.{answered};
 ghost use Rattle.ring.specs.Divisors.{gcd_of, lcm_of};
 ghost use Rattle.ring.specs.Periods.{repeats, min_period, IsPeriod};
 ghost use Rattle.ring.specs.Calls.{IsOutside, MarksCounted, lcm_refusal, period_refusal, product_added, MultiplyAdd};
 ghost use Rattle.ring.specs.Steps.{Divided, Stripped, Reduced};
 
-// The answer of a call that gives one number.
-#[derive(Clone, Copy)]
-pub enum Answer {
-    Refused(u32),
-    Is(usize),
-}
-
-// x as a length or an index.
-pub fn wide(x: u32) -> usize
-    ensures { result ≡ x }
-{
-    x as usize
-}
-
-// The smaller of two lengths.
-pub fn least(a: usize, b: usize) -> usize
-    ensures { result ≡ min a b }
-{
-    if a < b { a } else { b }
-}
+pub use refusal::Refusal;
 
 // Whether n is below 1 or above 65,536: the test of refusals 1 and 3.
 pub fn is_outside(n: usize) -> bool
     ensures { IsOutside n result }
 {
-    if n < 1 {
-        return true;
-    }
-    65536 < n
+    !(1..=65536).contains(&n)
 }
 
 // How many of the numbers below n are marked in the table.
 pub fn count_marks(seen: &[bool; 65536], n: usize) -> usize
     ensures { MarksCounted seen.now n result }
 {
-    let mut count = 0;
-    for k in 0..least(n, 65536) {
-        if seen[k] {
-            count += 1;
-        }
-    }
-    count
+    seen[..n.min(65536)]
+        .iter()
+        .filter(|&&marked| marked)
+        .count()
 }
 
 // The product modulo 2^64. LLVM makes one imul of it.
+// Kept: document 01 names an own multiply as the form, beside the supplied add.
 pub fn wrapping_mul(a: u64, b: u64) -> u64
     ensures { result ≡ mulm modulus a b }
 {
-    let a0 = a % 0x1_0000_0000;
-    let a1 = a / 0x1_0000_0000;
-    let b0 = b % 0x1_0000_0000;
-    let b1 = b / 0x1_0000_0000;
-    let cross = std::num::wrapping_add_u64(a1 * b0, b1 * a0);
-    std::num::wrapping_add_u64(a0 * b0, (cross % 0x1_0000_0000) * 0x1_0000_0000)
+    let (a0, a1) = (a % 0x1_0000_0000, a / 0x1_0000_0000);
+    let (b0, b1) = (b % 0x1_0000_0000, b / 0x1_0000_0000);
+    let cross = (a1 * b0).wrapping_add(b1 * a0);
+    (a0 * b0).wrapping_add((cross % 0x1_0000_0000) * 0x1_0000_0000)
 }
 
 fn multiply_add(a: &[u64], b: &[u64], out: &mut [u64])
@@ -74,23 +51,20 @@ fn multiply_add(a: &[u64], b: &[u64], out: &mut [u64])
     requires b_len { length b.now ≡ length out.old }
     ensures { out.new ≡ tabulate (length out.old) (product_added a.now b.now out.old) }
 {
-    for i in 0..out.len() {
-        out[i] = std::num::wrapping_add_u64(out[i], wrapping_mul(a[i], b[i]));
+    for (i, sum) in out.iter_mut().enumerate() {
+        *sum = sum.wrapping_add(wrapping_mul(a[i], b[i]));
     }
 }
 
 // Adds a[i]·b[i] to out[i] for every i. Refuses with 7 an `a` or a `b` that is not as long as `out`.
-pub fn multiply_add_into(a: &[u64], b: &[u64], out: &mut [u64]) -> u32
+pub fn multiply_add_into(a: &[u64], b: &[u64], out: &mut [u64]) -> Result<(), Refusal>
     ensures { MultiplyAdd a.now b.now out.old out.new result }
 {
-    if a.len() != out.len() {
-        return 7;
-    }
-    if b.len() != out.len() {
-        return 7;
+    if a.len() != out.len() || b.len() != out.len() {
+        return Err(Refusal::Length);
     }
     multiply_add(a, b, out);
-    0
+    Ok(())
 }
 
 // x where it is not negative, else -1 - x, which fits where -x may not.
@@ -136,18 +110,23 @@ pub fn gcd(a: u32, b: u32) -> u32
     if b == 0 { a } else { gcd(b, a % b) }
 }
 
+fn lcm(a: usize, b: usize) -> usize
+    requires a_range { Range a }
+    requires b_range { Range b }
+    ensures { result ≡ lcm_of a b }
+{
+    let g = gcd(a as u32, b as u32);
+    a / (g as usize) * b
+}
+
 // The least common multiple. Refuses with 3 an argument outside 1..=65536.
-pub fn period_lcm(a: usize, b: usize) -> Answer
+pub fn period_lcm(a: usize, b: usize) -> Result<usize, Refusal>
     ensures { result ≡ answered (lcm_refusal a b) (lcm_of a b) }
 {
-    if is_outside(a) {
-        return Answer::Refused(3);
+    if is_outside(a) || is_outside(b) {
+        return Err(Refusal::OutOfRange);
     }
-    if is_outside(b) {
-        return Answer::Refused(3);
-    }
-    let g = gcd(a as u32, b as u32);
-    Answer::Is(a / (g as usize) * b)
+    Ok(lcm(a, b))
 }
 
 // Whether v[t] = v[t mod q] for t < p.
@@ -156,12 +135,10 @@ fn agrees(v: &[u64], q: usize, p: usize) -> bool
     requires p_in_bounds { p ≤ length v.now }
     ensures { result ≡ repeats v.now q p }
 {
-    let mut t = q;
-    while t < p {
+    for t in q..p {
         if v[t] != v[t - q] {
             return false;
         }
-        t += 1;
     }
     true
 }
@@ -195,17 +172,13 @@ fn reduced(v: &[u64], period: usize, f: usize) -> usize
     p
 }
 
-// The smallest p dividing v's length with v[t] = v[t mod p] for every t: every prime of the length
-// is divided out while the quotient still repeats. Refuses with 3 a length outside 1..=65536.
-pub fn min_period(v: &[u64]) -> Answer
-    ensures { result ≡ answered (period_refusal v.now) (min_period v.now) }
+// Every prime of the length is divided out while the quotient still repeats.
+fn smallest_period(v: &[u64]) -> usize
+    requires { Range (length v.now) }
+    ensures { result ≡ min_period v.now }
 {
-    let n = v.len();
-    if is_outside(n) {
-        return Answer::Refused(3);
-    }
-    let mut period = n;
-    let mut rest = n;
+    let mut period = v.len();
+    let mut rest = period;
     let mut f = 2;
     while f * f <= rest {
         if rest % f == 0 {
@@ -217,5 +190,16 @@ pub fn min_period(v: &[u64]) -> Answer
     if 1 < rest {
         period = reduced(v, period, rest);
     }
-    Answer::Is(period)
+    period
+}
+
+// The smallest p dividing v's length with v[t] = v[t mod p] for every t. Refuses with 3 a length
+// outside 1..=65536.
+pub fn min_period(v: &[u64]) -> Result<usize, Refusal>
+    ensures { result ≡ answered (period_refusal v.now) (min_period v.now) }
+{
+    if is_outside(v.len()) {
+        return Err(Refusal::OutOfRange);
+    }
+    Ok(smallest_period(v))
 }

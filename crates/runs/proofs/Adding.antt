@@ -1,13 +1,15 @@
 -- The loop over the stored diagonals: what it keeps, and a turn.
 -- Assumes nothing.
-use Rattle.std.proofs.Common.{◌≡◌, ℕ, ◌+◌, ◌-◌, ◌<◌, ◌≤◌, List, length, get_or, take, drop, sym, refl, ap, ◌∙◌, arith, length-drop, length-take}
+use Rattle.std.proofs.Common.{◌≡◌, ℕ, ◌+◌, ◌-◌, ◌<◌, ◌≤◌, List, length, get_or, take, drop, sym, refl, ap, ◌∙◌, arith}
 use Rattle.ring.specs.Slots.{modulus, addm}
 use Rattle.ring.specs.Vectors.{tabulate}
 use Rattle.ring.specs.Laws.Vectors.{length_tabulate, get_or_tabulate, tabulate_cong}
 use Rattle.diagonals.specs.Maps.{length_at, offset_at, start_at, diagonal_at, view, WellFormed}
 use Rattle.diagonals.specs.Products.{term, product}
-use Rattle.diagonals.specs.Laws.Maps.{start_more, values_end, stored_some}
-use Rattle.runs.specs.Steps.Plain.{diagonal_added, Repeated}
+use Rattle.diagonals.specs.Laws.Maps.{start_more, values_end}
+use Rattle.std.specs.Prelude.{replicate}
+use Rattle.runs.proofs.Parts.{cleared}
+use Rattle.runs.specs.Steps.Plain.{diagonal_added}
 use Rattle.diagonals.specs.Laws.Products.{product_none, product_more}
 
 -- the first i diagonals are added, and the values of the next start at `start`
@@ -18,13 +20,13 @@ pub record Adding (count : ℕ) (pairs values input out table : List ℕ) (start
   pub len : length out ≡ length input
   pub table_len : length table ≡ 512
 
-pub adding_none : (count : ℕ) (pairs values input : List ℕ) {out table : List ℕ} (n : ℕ) → out ≡ tabulate n (λ i. 0) → n ≡ length input → length table ≡ 512 → Adding count pairs values input out table 0 0
+pub adding_none : (count : ℕ) (pairs values input : List ℕ) {out table : List ℕ} (n : ℕ) → out ≡ replicate {A = ℕ} n 0 → n ≡ length input → length table ≡ 512 → Adding count pairs values input out table 0 0
 adding_none count pairs values input n e s t =
     record {
       room = omega arith;
       start_is = refl;
-      so_far = e ∙ rw s (tabulate_cong (length input) _ _ (λ i l. sym (product_none modulus (length input) pairs values input i)));
-      len = ap length e ∙ length_tabulate n (λ i. 0) ∙ s;
+      so_far = cleared n e ∙ rw s (tabulate_cong (length input) _ _ (λ i l. sym (product_none modulus (length input) pairs values input i)));
+      len = ap length (cleared n e) ∙ length_tabulate n (λ i. 0) ∙ s;
       table_len = t;
     }
 
@@ -35,14 +37,6 @@ module _ {count start i : ℕ} {pairs values input out table : List ℕ} (w : We
   module _ {k : ℕ} (o : k ≡ offset_at pairs i) where
     abbrev period : List ℕ
     period = take (start + len - start) (drop start values)
-
-    pub asked : Repeated period k input out
-    asked =
-        record {
-          some = simp (length-take, length-drop) (omega (arith, fits, e, stored_some w i l));
-          low = omega (arith, (w.each i l).low, a.len);
-          whole = sym a.len;
-        }
 
     period_is : period ≡ (diagonal_at pairs values i).values
     period_is = let q : start + len - start ≡ length_at pairs i = omega arith in rw (q, a.start_is)
@@ -62,8 +56,3 @@ module _ {count start i : ℕ} {pairs values input out table : List ℕ} (w : We
           len = ap length q ∙ length_tabulate (length input) _;
           table_len = t ∙ a.table_len;
         }
-
-pub adding_done : {count start i : ℕ} {pairs values input out table : List ℕ} → Adding count pairs values input out table start i → count ≤ i → out ≡ tabulate (length input) (product modulus (length input) (view count pairs values) input)
-adding_done {count} {i} {pairs} {values} {input} a h =
-    let e : i ≡ count = omega (arith, a.room) in
-    a.so_far ∙ ap (λ (x : ℕ). tabulate (length input) (product modulus (length input) (view x pairs values) input)) e

@@ -1,6 +1,6 @@
 -- The baby switches: the search for a place, the doubling of a step, a switch from either source, and the loop over them.
 -- Assumes nothing.
-use Rattle.std.proofs.Common.{◌≡◌, ℕ, zero, suc, ◌+◌, ◌-◌, ◌*◌, ◌/◌, ◌^◌, ◌<◌, ◌≤◌, true, List, ◌∷◌, ◌++◌, length, get_or, take, drop, set, ℤ, pos, sym, refl, ap, ◌∙◌, mul_assoc, mul_comm, div-lt_iff_lt-mul, one-mul, pow-suc, le-div_iff_mul-le, arith, length-drop, length-set, length-take-le, w64, to_z, ne_eqb}
+use Rattle.std.proofs.Common.{◌≡◌, ℕ, zero, suc, ◌+◌, ◌-◌, ◌*◌, ◌/◌, ◌^◌, ◌<◌, ◌≤◌, true, List, ◌∷◌, ◌++◌, length, get_or, take, drop, set, ℤ, pos, sym, refl, ap, ◌∙◌, mul_comm, pow-suc, le-div_iff_mul-le, arith, length-drop, length-set, w64, to_z, ne_eqb}
 use native.Mathlib.Nat.{dvd_refl}
 use native.Mathlib.Decide.{dec_lt, ℕ_discrete}
 use mir.ValLaws.{to_z_pos}
@@ -10,81 +10,68 @@ use Rattle.ring.specs.Laws.Vectors.{length_tabulate, tabulate_more, in_front_mor
 use Rattle.ring.specs.Rotations.{rotated}
 use Rattle.ring.specs.Laws.Lists.{each_at}
 use Rattle.ring.specs.Laws.Rotations.{length_rotated}
-use Rattle.ring.specs.Laws.Divisors.{divides_yes}
-use Rattle.ring.specs.Laws.Refusals.{not_outside, on_accept_accepted}
+use Rattle.std.specs.Prelude.{Option, Some, Result, IsOk, ◌%◌}
+use Rattle.std.proofs.Common.{mod-eq_of_lt, mul-le-mul, pow_pos, append-nil, drop_of_length-le}
+use Rattle.std.proofs.lemmas.Bool.{ltb-true}
+use Rattle.std.proofs.lemmas.List.{drop-take, take-take}
+use Rattle.std.specs.List.Sorted.{IsNonDecreasingBy}
+use Prim.Native.Nat.{◌∣◌}
+use Rattle.ring.specs.Lists.{Rising}
+use Rattle.std.proofs.Common.{ltb, ltb-false, false, suc-mul, mul-le-mul_right, length-take-le}
+use Rattle.std.specs.List.Sorted.{IsPartitionPoint}
+use Rattle.runs.specs.declared.surveying.Powers.{Powers}
+use Rattle.ring.specs.declared.refusal.Refusal.{Refusal}
 use Rattle.diagonals.specs.Calls.{Rotated}
 use Rattle.linear_transformation.specs.Closures.{nonzeros}
 use Rattle.linear_transformation.specs.Laws.Closures.{top_unique}
 use Rattle.runs.specs.Switches.{place_of, source_of, rotation_of}
-use Rattle.runs.specs.Machines.{vector_at, put_vector, turned, source_vector}
-use Rattle.runs.specs.Laws.Places.{inside_first, length_put_vector}
+use Rattle.runs.specs.Machines.{vector_at, put_vector, source_vector}
+use Rattle.runs.specs.Laws.Places.{inside_first, length_vector_at, length_put_vector}
 use Rattle.runs.specs.Laws.Folds.{cache_more}
-use Rattle.runs.specs.Laws.Schedules.{place_found, nonzeros_rise, among_nonzeros}
+use Rattle.runs.specs.Laws.Schedules.{place_found}
 use Rattle.linear_transformation.specs.Laws.Runs.{rising_at}
 use Rattle.runs.specs.Laws.PassSchedules.{top_turn, making, nonzeros_positive, nonzeros_each}
-use Rattle.runs.specs.Steps.Keyed.{turn_by, Listed, Babies, Turnable, TurnIs, Caching, BabyMade, BabiesMade, CopyTurn}
+use Rattle.runs.proofs.Accepted.{rotating, rotating_is}
+use Rattle.runs.specs.Steps.Keyed.{turn_by, StepUpTo, Listed, Babies, Reading, Turnable, TurnIs, Caching, BabyMade, BabiesMade}
 
 -- ---- the place of a listed number
 
-pub record Between (bs : List ℕ) (k low high : ℕ) : Type 0 where
-  pub from : low ≤ place_of k bs
-  pub below : place_of k bs < high
-  pub inside : high ≤ length bs
-
-pub between_all : {bs : List ℕ} {k : ℕ} → Listed bs k → Between bs k 0 (length bs)
-between_all {bs} {k} l = record { from = omega arith; below = (place_found k bs l.has).within; inside = omega arith }
-
-module _ {bs : List ℕ} {k low high : ℕ} (l : Listed bs k) (b : Between bs k low high) (mid : ℕ) (inside : mid < high) where
-  pub between_up : get_or bs mid 0 ≤ k → Between bs k mid high
-  between_up h = record { from = by (dec_lt (place_of k bs) mid); below = b.below; inside = b.inside }
-    where
-      by : Dec (place_of k bs < mid) → mid ≤ place_of k bs
-      by (yes q) = absurd (omega (arith, rising_at bs 0 l.rises (place_of k bs) mid q (omega (arith, b.inside)), (place_found k bs l.has).there))
-      by (no q) = omega arith
-
-  pub between_down : k < get_or bs mid 0 → Between bs k low mid
-  between_down h = record { from = b.from; below = by (dec_lt mid (place_of k bs)) (ℕ_discrete (place_of k bs) mid); inside = omega (arith, b.inside) }
-    where
-      by : Dec (mid < place_of k bs) → Dec (place_of k bs ≡ mid) → place_of k bs < mid
-      by (yes q) d = absurd (omega (arith, rising_at bs 0 l.rises mid (place_of k bs) q (place_found k bs l.has).within, (place_found k bs l.has).there))
-      by (no q) (yes e) = absurd (omega (arith, rw e at (place_found k bs l.has).there))
-      by (no q) (no n) = omega arith
-
--- ---- the top bit of a multiple
-
-pub record Doubled (step v turn : ℕ) : Type 0 where
-  pub place : ℕ
-  pub is : turn ≡ 2 ^ place * step
-  pub low : turn ≤ v
-
-pub doubled_none : {step v : ℕ} → step ≤ v → Doubled step v step
-doubled_none {step} h = record { place = 0; is = sym (one-mul step); low = h }
-
-pub doubled_more : {step v turn : ℕ} → Doubled step v turn → turn ≤ v - turn → Doubled step v (2 * turn)
-doubled_more {step} {v} {turn} d h =
-    record {
-      place = suc d.place;
-      is = rw (d.is, pow-suc 2 d.place, mul_comm (2 ^ d.place) 2) (sym (mul_assoc 2 (2 ^ d.place) step));
-      low = omega (arith, d.low);
-    }
-
-pub doubled_done : {step v turn : ℕ} → Doubled step v turn → 1 ≤ step → v - turn < turn → turn ≡ top_turn step v
-doubled_done {step} {v} {turn} d s h =
-    d.is
-    ∙ ap (λ (i : ℕ). 2 ^ i * step)
-    (sym (top_unique (v / step) d.place
-    ((le-div_iff_mul-le s).1 (omega (arith, d.is, d.low)))
-    ((div-lt_iff_lt-mul s).1 (omega (arith, d.is, d.low, pow-suc 2 d.place, twice)))))
+-- where the numbers below it end in a rising list
+pub place_is_point : {bs : List ℕ} {k r : ℕ} → Listed bs k → IsPartitionPoint (λ y. ltb y k ≡ true) (λ y. ltb y k ≡ false) bs r → r ≡ place_of k bs
+place_is_point {bs} {k} {r} l p = by (dec_lt r (place_of k bs)) (ℕ_discrete r (place_of k bs))
   where
-    twice : 2 ^ suc d.place * step ≡ 2 * (2 ^ d.place * step)
-    twice = rw (pow-suc 2 d.place, mul_comm (2 ^ d.place) 2) (mul_assoc 2 (2 ^ d.place) step)
+    by : Dec (r < place_of k bs) → Dec (r ≡ place_of k bs) → r ≡ place_of k bs
+    by (yes q) d = let f = place_found k bs l.has in absurd (omega (arith, rising_at bs 0 l.rises r (place_of k bs) q f.within, f.there, ltb-false (get_or bs r 0) k (p.1 r 0 (omega arith) (omega (arith, f.within)))))
+    by (no q) (yes e) = e
+    by (no q) (no e) = let f = place_found k bs l.has in absurd (omega (arith, f.there, ltb-true (get_or bs (place_of k bs) 0) k (p.0 (place_of k bs) 0 (omega arith) (omega arith))))
 
-pub turn_some : (step v turn : ℕ) → 1 ≤ step → 1 ≤ turn → turn ≤ v → turn ≡ top_turn step v → TurnIs v step turn
-turn_some zero v turn h s l e = absurd (omega arith)
-turn_some (suc c) v turn h s l e = record { is = e; some = s; within = l }
+-- its numbers do not fall
+pub rising_order : (bs : List ℕ) → Rising bs → IsNonDecreasingBy suc bs
+rising_order bs r i j d l m = by (ℕ_discrete i j)
+  where
+    by : Dec (i ≡ j) → suc (get_or bs i d) ≤ suc (get_or bs j d)
+    by (yes e) = rw e (omega arith)
+    by (no n) = omega (arith, rising_at bs d r i j (omega arith) m)
 
-pub turn_own : (step v : ℕ) → step ≡ 0 → 1 ≤ v → TurnIs v step v
-turn_own step v e h = record { is = rw e; some = h; within = omega arith }
+-- ---- the turn of a baby
+
+module _ (v step top : ℕ) (s : 1 ≤ step) (l : 2 ^ top ≤ v / step) (h : v / step < 2 * 2 ^ top) where
+  turn_top : step * 2 ^ top ≡ top_turn step v
+  turn_top = mul_comm step (2 ^ top) ∙ ap (λ (i : ℕ). 2 ^ i * step) (sym (top_unique (v / step) top l (omega (arith, h, pow-suc 2 top))))
+
+  turn_within : step * 2 ^ top ≤ v
+  turn_within = rw (mul_comm step (2 ^ top)) ((le-div_iff_mul-le s).0 l)
+
+  turn_positive : 1 ≤ step * 2 ^ top
+  turn_positive = mul-le-mul s (pow_pos top)
+
+-- with powers of two
+pub turn_some : (v top : ℕ) (powers : Option Powers) (p : Powers) → powers ≡ Some p → Turnable v powers → 2 ^ top ≤ v / p.step → v / p.step < 2 * 2 ^ top → TurnIs v powers (p.step * 2 ^ top % 4294967296)
+turn_some v top powers p e t l h =
+    let low : StepUpTo v (Some p) = rw e at t.low in
+    let within = turn_within v p.step top low.0 l h in
+    let whole : p.step * 2 ^ top % 4294967296 ≡ p.step * 2 ^ top = mod-eq_of_lt (omega (arith, within, t.small)) in
+    rw (whole, e) (record { is = turn_top v p.step top low.0 l h; some = turn_positive v p.step top low.0 l h; within = within })
 
 -- ---- the vector of a baby
 
@@ -96,18 +83,15 @@ place_behind bs k e h = ap (place_of k) e ∙ rw (ne_eqb 0 k (λ q. omega arith)
 pub place_within : (bs : List ℕ) (k : ℕ) → bs ≡ 0 ∷ nonzeros bs → 1 ≤ k → among k bs ≡ true → place_of k (nonzeros bs) < length (nonzeros bs)
 place_within bs k e h a = omega (arith, (place_found k bs a).within, place_behind bs k e h, ap length e)
 
-module _ {bs input cache : List ℕ} (b : Babies bs input cache) (k r : ℕ) (h : 1 ≤ k) (a : among k bs ≡ true) (e : r ≡ place_of k bs) where
-  pub place_some : 1 ≤ r
-  place_some = omega (arith, place_behind bs k b.front h)
+-- a full cache holds it
+pub baby_read : {bs input cache : List ℕ} (k : ℕ) → Babies bs input cache → among k bs ≡ true → place_of k bs * length input ≤ length cache
+baby_read {bs} {input} k b a =
+    let l : place_of k bs ≤ length (nonzeros bs) = omega (arith, (place_found k bs a).within, ap length b.front) in
+    omega (arith, b.room, mul-le-mul_right (length input) l)
 
-  pub place_is : r - 1 ≡ place_of k (nonzeros bs)
+module _ {bs input cache : List ℕ} {k : ℕ} (b : Reading bs k input cache) (h : 1 ≤ k) {r : ℕ} (e : r ≡ place_of k bs) where
+  place_is : r - 1 ≡ place_of k (nonzeros bs)
   place_is = omega (arith, place_behind bs k b.front h)
-
-  pub place_low : r - 1 < length (nonzeros bs)
-  place_low = omega (arith, place_is, place_within bs k b.front h a)
-
-  pub place_room : (r - 1) * length input + length input ≤ length cache
-  place_room = (inside_first (length input) cache (length (nonzeros bs)) (r - 1) b.room place_low).room
 
   pub vector_is : take ((r - 1) * length input + length input - (r - 1) * length input) (drop ((r - 1) * length input) cache) ≡ source_vector (length input) input cache (source_of bs k)
   unfolding vector_at
@@ -119,96 +103,97 @@ module _ {bs input cache : List ℕ} (b : Babies bs input cache) (k r : ℕ) (h 
 
 -- ---- a switch
 
-module _ {bs input cache : List ℕ} {step : ℕ} (c : Caching bs step input cache) (p : ℕ) (h : p < length (nonzeros bs)) where
+module _ {bs input cache : List ℕ} {powers : Option Powers} (c : Caching bs powers input cache) (p : ℕ) (h : p < length (nonzeros bs)) where
   abbrev slots : ℕ
   slots = length input
 
   abbrev v : ℕ
   v = get_or (nonzeros bs) p 0
 
-  pub baby_inside : p + 1 < length bs
-  baby_inside = omega (arith, ap length c.babies.front)
-
-  pub baby_word : get_or bs (p + 1) 0 ≡ v
+  baby_word : get_or bs (p + 1) 0 ≡ v
   baby_word = ap (λ (t : List ℕ). get_or t (p + 1) 0) c.babies.front ∙ ap (λ (i : ℕ). get_or (0 ∷ nonzeros bs) i 0) (let e : p + 1 ≡ suc p = omega arith in e)
 
-  pub baby_low : v < slots
+  baby_low : v < slots
   baby_low = each_at (λ b. b < slots) (nonzeros bs) 0 (nonzeros_each (λ b. b < slots) bs c.low) p h
 
-  pub baby_some : 1 ≤ v
+  baby_some : 1 ≤ v
   baby_some = each_at (λ b. 1 ≤ b) (nonzeros bs) 0 (nonzeros_positive bs) p h
 
-  pub turn_asked : Turnable (get_or bs (p + 1) 0) step
-  turn_asked = rw baby_word (record { some = baby_some; low = each_at (λ b. step ≤ b) (nonzeros bs) 0 c.steps p h; small = omega (arith, baby_low, c.small) })
+  pub turn_asked : Turnable (get_or bs (p + 1) 0) powers
+  turn_asked = rw baby_word (record { some = baby_some; low = each_at (λ b. StepUpTo b powers) (nonzeros bs) 0 c.steps p h; small = omega (arith, baby_low, c.small) })
 
   pub baby_room : p * slots + slots ≤ length cache
   baby_room = (inside_first slots cache (length (nonzeros bs)) p c.babies.room h).room
 
-  module _ {turn : ℕ} (t : TurnIs (get_or bs (p + 1) 0) step turn) where
-    turn_is : turn ≡ turn_by step v
-    turn_is = t.is ∙ ap (turn_by step) baby_word
+  module _ {turn : ℕ} (t : TurnIs (get_or bs (p + 1) 0) powers turn) where
+    turn_is : turn ≡ turn_by powers v
+    turn_is = t.is ∙ ap (turn_by powers) baby_word
 
     turn_low : turn < slots
     turn_low = omega (arith, t.within, baby_word, baby_low)
 
-    -- from the input
-    pub from_input_lem : get_or bs (p + 1) 0 - turn ≡ 0 → {shift : ℤ} → shift ≡ pos turn → {ys : List ℕ} {r : ℕ} → Rotated input shift (take (p * slots + slots - p * slots) (drop (p * slots) cache)) ys r
-        → BabyMade bs step p input cache (take (p * slots) cache ++ (ys ++ drop (p * slots + slots - p * slots) (drop (p * slots) cache))) turn
+    abbrev source : ℕ
+    source = get_or bs (p + 1) 0 - turn
+
+    source_listed : among source bs ≡ true
+    source_listed = rw (baby_word, turn_is) (each_at (λ b. among (b - turn_by powers b) bs ≡ true) (nonzeros bs) 0 c.closed p h)
+
+    -- it stands before the baby
+    source_place : place_of source bs ≤ p
+    source_place = by (dec_lt p (place_of source bs))
+      where
+        by : Dec (p < place_of source bs) → place_of source bs ≤ p
+        by (yes l) =
+            let there = (place_found source bs source_listed).there in
+            let within = (place_found source bs source_listed).within in
+            absurd (later (ℕ_discrete (p + 1) (place_of source bs)) l there within)
+          where
+            later : Dec (p + 1 ≡ place_of source bs) → p < place_of source bs → get_or bs (place_of source bs) 0 ≡ source → place_of source bs < length bs → ⊥
+            later (yes e) l there within = omega (arith, rw (← e) at there, t.some, baby_word, baby_some)
+            later (no n) l there within = omega (arith, rising_at bs 0 c.babies.rises (p + 1) (place_of source bs) (omega arith) within, there, t.some)
+        by (no l) = omega arith
+
+    -- the vectors that are made hold it
+    pub source_asked : {made : List ℕ} → length made ≡ p * slots → Reading bs source input made
+    source_asked e = record { rises = c.babies.rises; front = c.babies.front; has = source_listed; room = rw e (mul-le-mul_right slots source_place) }
+
+    -- a vector
+    source_length : length (source_vector slots input cache (source_of bs source)) ≡ slots
+    source_length = by source source_place
+      where
+        by : (k : ℕ) → place_of k bs ≤ p → length (source_vector slots input cache (source_of bs k)) ≡ slots
+        by zero l = refl
+        by (suc k) l =
+            let e = place_behind bs (suc k) c.babies.front (omega arith) in
+            length_vector_at slots (inside_first slots cache (length (nonzeros bs)) (place_of (suc k) (nonzeros bs)) c.babies.room (omega (arith, e, h)))
+
+    pub source_kept : source_vector slots input (take (p * slots) cache) (source_of bs source) ≡ source_vector slots input cache (source_of bs source)
+    unfolding vector_at
+    source_kept = by source source_place refl
+      where
+        by : (k : ℕ) → place_of k bs ≤ p → k ≡ source → source_vector slots input (take (p * slots) cache) (source_of bs k) ≡ source_vector slots input cache (source_of bs k)
+        by zero l e = refl
+        by (suc k) l e =
+            let place : ℕ = place_of (suc k) (nonzeros bs) in
+            let fits : place * slots + slots ≤ p * slots = omega (arith, suc-mul place slots, mul-le-mul_right slots (let x : suc place ≤ p = omega (arith, place_behind bs (suc k) c.babies.front (omega arith)) in x)) in
+            let n : ℕ = p * slots - place * slots in
+            let e : place * slots + n ≡ p * slots = omega arith in
+            rw (← e) (ap (take slots) (drop-take (place * slots) n cache) ∙ take-take slots n (drop (place * slots) cache) (omega arith))
+
+    pub part_length : {rest : List ℕ} → rest ≡ drop (p * slots) cache → length (take slots rest) ≡ slots
+    part_length {rest} e = rw e (length-take-le slots (drop (p * slots) cache) (rw length-drop (omega (arith, baby_room))))
+
+    pub made_lem : {made rest src ys : List ℕ} {shift : ℤ} {r : Result Unit Refusal} → made ≡ take (p * slots) cache → rest ≡ drop (p * slots) cache → src ≡ source_vector slots input made (source_of bs source) → shift ≡ pos turn → Rotated src shift (take slots rest) ys r
+        → IsOk r × BabyMade bs powers p input cache (made ++ (ys ++ drop slots rest)) turn
     unfolding put_vector put_at in_front
-    from_input_lem z i {ys} {r} q =
-        let e : p * slots + slots - p * slots ≡ slots = omega arith in
-        let len : length (take slots (drop (p * slots) cache)) ≡ slots = length-take-le slots (drop (p * slots) cache) (rw length-drop (omega (arith, baby_room))) in
-        let out : Rotated input (pos turn) (take slots (drop (p * slots) cache)) ys r = rw (e, i) at q in
-        let accepted : r ≡ 0 = out.answer ∙ rw (not_outside slots c.some c.small, len, divides_yes slots slots (dvd_refl slots)) in
-        let is : ys ≡ rotated input (pos turn) slots = out.out ∙ on_accept_accepted r _ _ accepted ∙ rw len in
-        let source : v - turn_by step v ≡ 0 = rw (baby_word, turn_is) at z in
-        record { cache = rw (source, ← turn_is, e, is, length_rotated); turn = turn_is }
-
-    source_listed : among (get_or bs (p + 1) 0 - turn) bs ≡ true
-    source_listed = rw (baby_word, turn_is) (each_at (λ b. among (b - turn_by step b) bs ≡ true) (nonzeros bs) 0 c.closed p h)
-
-    pub source_asked : Listed bs (get_or bs (p + 1) 0 - turn)
-    source_asked = record { rises = c.babies.rises; has = source_listed }
-
-    -- from the cache
-    module _ (s : 1 ≤ get_or bs (p + 1) 0 - turn) {r : ℕ} (e : r ≡ place_of (get_or bs (p + 1) 0 - turn) bs) where
-      abbrev source : ℕ
-      source = get_or bs (p + 1) 0 - turn
-
-      pub source_some : 1 ≤ r
-      source_some = place_some c.babies source r s source_listed e
-
-      source_place : get_or (nonzeros bs) (r - 1) 0 ≡ source
-      source_place = rw (place_is c.babies source r s source_listed e) (place_found source (nonzeros bs) (among_nonzeros source bs source_listed s)).there
-
-      -- what stands from p on is not below v
-      not_later : p ≤ r - 1 → v ≤ get_or (nonzeros bs) (r - 1) 0
-      not_later l = by (ℕ_discrete p (r - 1))
-        where
-          by : Dec (p ≡ r - 1) → v ≤ get_or (nonzeros bs) (r - 1) 0
-          by (yes q) = rw (← q) (omega arith)
-          by (no q) = let o = rising_at (nonzeros bs) 0 (nonzeros_rise bs c.babies.rises) p (r - 1) (omega arith) (place_low c.babies source r s source_listed e) in omega arith
-
-      earlier : r - 1 < p
-      earlier = by (dec_lt (r - 1) p)
-        where
-          by : Dec (r - 1 < p) → r - 1 < p
-          by (yes l) = l
-          by (no l) = absurd (omega (arith, not_later (omega arith), source_place, baby_word, t.some, baby_some))
-
-      pub copy_asked : CopyTurn slots cache p (r - 1) turn
-      copy_asked = record { low = turn_low; order = earlier; room = baby_room }
-
-      pub from_cache_lem : {new : List ℕ} → new ≡ put_vector slots cache p (turned slots (vector_at slots cache (r - 1)) turn) → BabyMade bs step p input cache new turn
-      from_cache_lem {new} q =
-          record {
-            cache = q ∙ rw (← turn_is, place_is c.babies source r s source_listed e, ← baby_word) (by (get_or bs (p + 1) 0 - turn) s);
-            turn = turn_is;
-          }
-        where
-          by : (k : ℕ) → 1 ≤ k → put_vector slots cache p (turned slots (vector_at slots cache (place_of k (nonzeros bs))) turn) ≡ put_vector slots cache p (turned slots (source_vector slots input cache (source_of bs k)) turn)
-          by zero h = absurd (omega arith)
-          by (suc k) h = refl
+    made_lem {made} {rest} {src} {ys} {shift} m e s i q =
+        let src_is : src ≡ source_vector slots input cache (source_of bs source) = s ∙ rw m source_kept in
+        let src_length : length src ≡ slots = rw src_is source_length in
+        let copies : length src ∣ length (take slots rest) = rw (src_length, part_length e) (dvd_refl slots) in
+        let some : 1 ≤ length src = rw src_length c.some in
+        let small : length src ≤ 65536 = rw src_length c.small in
+        let is : ys ≡ rotated src (pos turn) slots = rotating_is q some small copies ∙ rw (part_length e, i) refl in
+        (rotating q some small copies, record { cache = rw (m, e, is, src_is, length_rotated, baby_word, turn_is) refl; turn = turn_is })
 
     -- as a signed word
     pub turn_signed : to_z w64 turn ≡ pos turn
@@ -217,7 +202,7 @@ module _ {bs input cache : List ℕ} {step : ℕ} (c : Caching bs step input cac
 -- ---- the switches, one after the other
 
 -- the room is that of the length alone
-pub caching_kept : {bs input old new : List ℕ} {step : ℕ} → Caching bs step input old → length new ≡ length old → Caching bs step input new
+pub caching_kept : {bs input old new : List ℕ} {powers : Option Powers} → Caching bs powers input old → length new ≡ length old → Caching bs powers input new
 caching_kept c e =
     record {
       babies = record { rises = c.babies.rises; front = c.babies.front; room = omega (arith, c.babies.room) };
@@ -228,19 +213,19 @@ caching_kept c e =
       closed = c.closed;
     }
 
-pub record Making (bs : List ℕ) (step : ℕ) (input : List ℕ) (n : ℕ) (old new log log' : List ℕ) (p : ℕ) : Type 0 where
-  pub made : BabiesMade bs step p input old new log log'
+pub record Making (bs : List ℕ) (powers : Option Powers) (input : List ℕ) (n : ℕ) (old new log log' : List ℕ) (p : ℕ) : Type 0 where
+  pub made : BabiesMade bs powers p input old new log log'
   pub len : length new ≡ length old
   pub log_len : length log' ≡ length log
   pub room : p ≤ n
 
-pub making_none : (bs : List ℕ) (step : ℕ) (input : List ℕ) (n : ℕ) (old log : List ℕ) → Making bs step input n old old log log 0
+pub making_none : (bs : List ℕ) (powers : Option Powers) (input : List ℕ) (n : ℕ) (old log : List ℕ) → Making bs powers input n old old log log 0
 unfolding in_front
-making_none bs step input n old log = record { made = record { cache = refl; logged = refl }; len = refl; log_len = refl; room = omega arith }
+making_none bs powers input n old log = record { made = record { cache = refl; logged = refl }; len = refl; log_len = refl; room = omega arith }
 
-pub making_more : {bs input : List ℕ} {step n p r : ℕ} {old mid new log mid-log : List ℕ} → Making bs step input n old mid log mid-log p → Caching bs step input old → p < length (nonzeros bs) → p < n → n ≤ length log → BabyMade bs step p input mid new r → Making bs step input n old new log (set mid-log p r) (p + 1)
-making_more {bs} {input} {step} {n} {p} {r} {old} {mid} {new} {log} {mid-log} k c h l room b =
-    let f = making bs (turn_by step) in
+pub making_more : {bs input : List ℕ} {powers : Option Powers} {n p r : ℕ} {old mid new log mid-log : List ℕ} → Making bs powers input n old mid log mid-log p → Caching bs powers input old → p < length (nonzeros bs) → p < n → n ≤ length log → BabyMade bs powers p input mid new r → Making bs powers input n old new log (set mid-log p r) (p + 1)
+making_more {bs} {input} {powers} {n} {p} {r} {old} {mid} {new} {log} {mid-log} k c h l room b =
+    let f = making bs (turn_by powers) in
     let words = tabulate p (λ q. rotation_of (f q)) in
     record {
       made = record {
@@ -252,5 +237,16 @@ making_more {bs} {input} {step} {n} {p} {r} {old} {mid} {new} {log} {mid-log} k 
       room = omega arith;
     }
 
-pub making_done : {bs input : List ℕ} {step n p : ℕ} {old new log log' : List ℕ} → Making bs step input n old new log log' p → n ≤ p → BabiesMade bs step n input old new log log'
-making_done {bs} {input} {step} {n} {p} {old} {new} {log} {log'} m h = let e : p ≡ n = omega (arith, m.room) in rw e at m.made
+pub making_many : {bs input : List ℕ} {powers : Option Powers} {n p : ℕ} {old new turns : List ℕ} (log : List ℕ) → n ≤ length log → Making bs powers input n old new (take n log) turns p → length turns ≡ n
+making_many {n = n} log room m = m.log_len ∙ length-take-le n log room
+
+-- the n turns, in a log of their own, go in front of the whole log
+pub making_done : {bs input : List ℕ} {powers : Option Powers} {n p : ℕ} {old new log turns : List ℕ} → n ≤ length log → Making bs powers input n old new (take n log) turns p → n ≤ p → BabiesMade bs powers n input old new log (turns ++ drop n log)
+unfolding in_front
+making_done {bs} {input} {powers} {n} {p} {old} {new} {log} {turns} room m h =
+    let e : p ≡ n = omega (arith, m.room) in
+    let words = tabulate n (λ q. rotation_of (making bs (turn_by powers) q)) in
+    let many : length words ≡ n = length_tabulate n _ in
+    let b : BabiesMade bs powers n input old new (take n log) turns = rw e at m.made in
+    let whole : turns ≡ words = b.logged ∙ ap (λ (t : List ℕ). words ++ t) (drop_of_length-le (take n log) {i = length words} (rw (many, length-take-le n log room) (omega arith))) ∙ append-nil words in
+    record { cache = b.cache; logged = rw (whole, many) refl }

@@ -2,15 +2,16 @@
 -- Assumes nothing.
 use Rattle.std.proofs.Common.{◌≡◌, ℕ, ◌+◌, ◌-◌, ◌*◌, ◌/◌, ◌%◌, ◌<◌, ◌≤◌, List, ◌++◌, length, get_or, take, drop, pos, refl, ap, ◌∙◌, mod-lt, arith, length-take-le, take_at}
 use Prim.Native.Nat.{◌∣◌}
-use native.Mathlib.Nat.{mod-add-div, le_of_dvd, dvd-mul_right, mod-mod_of_dvd}
+use native.Mathlib.Nat.{mod-add-div, dvd-mul_right, mod-mod_of_dvd}
 use Rattle.ring.specs.Vectors.{tabulate}
 use Rattle.ring.specs.Laws.Vectors.{length_tabulate, get_or_tabulate, tabulate_cong}
 use Rattle.ring.specs.Laws.Rotations.{rotated_copies}
-use Rattle.ring.specs.Laws.Divisors.{divides_yes}
-use Rattle.ring.specs.Laws.Refusals.{not_outside, on_accept_accepted}
+use Rattle.std.specs.Prelude.{Result}
+use Rattle.ring.specs.declared.refusal.Refusal.{Refusal}
 use Rattle.diagonals.specs.Calls.{Rotated}
 use Rattle.diagonals.specs.Products.{cell}
 use Rattle.runs.specs.Steps.Plain.{Around, around_added}
+use Rattle.runs.proofs.Accepted.{rotating_is}
 use Rattle.runs.proofs.Parts.{same_word}
 
 -- copies of a period read at a slot
@@ -32,36 +33,25 @@ whole_divided room n =
     let e : whole_of room n ≡ n * (room / n) = omega (arith, mod-add-div room n) in
     rw e (dvd-mul_right n (room / n))
 
-whole_least : (room n : ℕ) → 1 ≤ n → n ≤ room → n ≤ whole_of room n
-whole_least room n h l = le_of_dvd (whole_some room n h l) (whole_divided room n)
-
 -- the table's front, filled with copies: the words ys, and the rest of the table behind them
 abbrev pub front : List ℕ → List ℕ → ℕ → List ℕ → List ℕ
 front period table room ys = take (whole_of room (length period)) (ys ++ drop (whole_of room (length period)) table)
 
-module _ (period table : List ℕ) (room : ℕ) (within : room ≤ length table) (small : length table ≤ 65536) (fits : length period ≤ room) (some : 1 ≤ length period) {ys : List ℕ} {r : ℕ} (t : Rotated period (pos 0) (take (whole_of room (length period)) table) ys r) where
-  accepted : r ≡ 0
-  accepted =
-      t.answer
-      ∙ rw (not_outside (length period) some (omega arith), length-take-le (whole_of room (length period)) table (omega arith), divides_yes _ _ (whole_divided room (length period)))
+module _ (period table : List ℕ) (room : ℕ) (within : room ≤ length table) (small : length table ≤ 65536) (fits : length period ≤ room) (some : 1 ≤ length period) {ys : List ℕ} {r : Result Unit Refusal} (t : Rotated period (pos 0) (take (whole_of room (length period)) table) ys r) where
+  front_room : length (take (whole_of room (length period)) table) ≡ whole_of room (length period)
+  front_room = length-take-le (whole_of room (length period)) table (omega arith)
 
   laid : ys ≡ tabulate (whole_of room (length period)) (cell period)
-  laid = t.out ∙ on_accept_accepted r _ _ accepted ∙ rw (length-take-le (whole_of room (length period)) table (omega arith)) (rotated_copies period some _)
+  laid = rotating_is t some (omega arith) (rw front_room (whole_divided room (length period))) ∙ rw front_room (rotated_copies period some _)
 
   front_is : front period table room ys ≡ tabulate (whole_of room (length period)) (cell period)
   front_is =
       let whole : ℕ = whole_of room (length period) in
       take_at ys (drop whole table) whole (ap length laid ∙ length_tabulate whole (cell period)) ∙ laid
 
-  pub front_length : length (front period table room ys) ≡ whole_of room (length period)
-  front_length = ap length front_is ∙ length_tabulate _ (cell period)
-
   front_cell : (s : ℕ) → cell (front period table room ys) s ≡ cell period s
   front_cell s = ap (λ (x : List ℕ). cell x s) front_is ∙ cell_copies period _ s (whole_some room (length period) some fits) (whole_divided room (length period))
 
   module _ {from : ℕ} {vector part : List ℕ} (a : Around period from vector part) where
-    pub copies_asked : Around (front period table room ys) from vector part
-    copies_asked = record { low = rw front_length (omega (arith, a.low, whole_least room (length period) some fits)); same = a.same }
-
     pub copies_added : {new : List ℕ} → new ≡ tabulate (length part) (around_added (front period table room ys) from vector part) → new ≡ tabulate (length part) (around_added period from vector part)
     copies_added e = e ∙ tabulate_cong (length part) _ _ (λ j l. same_word refl (front_cell (from + j)) refl)

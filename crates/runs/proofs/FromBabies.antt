@@ -16,9 +16,12 @@ use Rattle.linear_transformation.specs.Stored.{step_of}
 use Rattle.linear_transformation.specs.Laws.Turns.{nonzeros_times}
 use Rattle.runs.specs.Switches.{rotation_of, baby_schedule}
 use Rattle.runs.specs.Laws.Caches.{plan_turns, cache_room}
-use Rattle.runs.specs.Laws.PassSchedules.{top_turn, making, turn_of, baby_schedule_lem, nonzeros_positive, nonzeros_each}
+use Rattle.runs.specs.Laws.PassSchedules.{making, turn_of, baby_schedule_lem, nonzeros_positive, nonzeros_each}
 use Rattle.runs.specs.Laws.Schedules.{step_positive, plan_babies_rise, plan_babies_front, plan_babies_low}
-use Rattle.runs.specs.Steps.Keyed.{turn_by, Babies, Caching}
+use Rattle.std.specs.Prelude.{Some}
+use Rattle.linear_transformation.specs.Stored.{bits_for}
+use Rattle.runs.specs.Steps.Surveys.{powers_of}
+use Rattle.runs.specs.Steps.Keyed.{turn_by, StepUpTo, Babies, Caching}
 
 -- the first n of a table
 take_table : {A : Type 0} (n a : ℕ) (f : ℕ → A) → n ≤ a → take n (tabulate a f) ≡ tabulate n f
@@ -29,16 +32,11 @@ take_table {A} (suc n) (suc a) f h = ap (λ (t : List A). f 0 ∷ t) (take_table
 
 -- ---- turns
 
--- with a step the turn is that of the top bit
-turn_step : (step v : ℕ) → 1 ≤ step → turn_by step v ≡ top_turn step v
-turn_step zero v h = absurd (not-suc-le-zero h)
-turn_step (suc c) v h = refl
-
--- by the plan's step each baby has the turn of its strategy
-pub turn_by_lem : (slots : ℕ) (strategy : LinearTransformationStrategy) (ks : List ℕ) (v : ℕ) → turn_by (step_of slots strategy ks) v ≡ turn_of slots strategy ks v
+-- each baby has the turn of its strategy
+pub turn_by_lem : (slots : ℕ) (strategy : LinearTransformationStrategy) (ks : List ℕ) (v : ℕ) → turn_by (powers_of slots strategy ks) v ≡ turn_of slots strategy ks v
 unfolding step_of
 turn_by_lem slots (Bsgs width) ks v = refl
-turn_by_lem slots (BsgsPowersOfTwo width) ks v = turn_step (baby_step slots width ks) v (step_positive slots width ks)
+turn_by_lem slots (BsgsPowersOfTwo width) ks v = refl
 turn_by_lem slots Direct ks v = refl
 
 -- ---- switches
@@ -48,38 +46,38 @@ making_same bs f g same p = rw (same (get_or (nonzeros bs) p 0))
 
 module _ (slots : ℕ) (strategy : LinearTransformationStrategy) (ks : List ℕ) {n : ℕ} (h : n ≤ length (nonzeros (plan_babies slots strategy ks))) where
   -- the first n switches are those of the schedule
-  pub babies_by : tabulate n (making (plan_babies slots strategy ks) (turn_by (step_of slots strategy ks))) ≡ take n (baby_schedule slots strategy ks)
+  pub babies_by : tabulate n (making (plan_babies slots strategy ks) (turn_by (powers_of slots strategy ks))) ≡ take n (baby_schedule slots strategy ks)
   babies_by =
       let bs = plan_babies slots strategy ks in
-      tabulate_cong n (making bs (turn_by (step_of slots strategy ks))) (making bs (turn_of slots strategy ks))
-      (λ p l. making_same bs (turn_by (step_of slots strategy ks)) (turn_of slots strategy ks) (turn_by_lem slots strategy ks) p)
+      tabulate_cong n (making bs (turn_by (powers_of slots strategy ks))) (making bs (turn_of slots strategy ks))
+      (λ p l. making_same bs (turn_by (powers_of slots strategy ks)) (turn_of slots strategy ks) (turn_by_lem slots strategy ks) p)
       ∙ sym (ap (take n) (baby_schedule_lem slots strategy ks) ∙ take_table n (length (nonzeros bs)) (making bs (turn_of slots strategy ks)) h)
 
   -- and so are their rotations
-  pub babies_logged : tabulate n (λ p. rotation_of (making (plan_babies slots strategy ks) (turn_by (step_of slots strategy ks)) p)) ≡ map rotation_of (take n (baby_schedule slots strategy ks))
-  babies_logged = sym (map_tabulate rotation_of n (making (plan_babies slots strategy ks) (turn_by (step_of slots strategy ks)))) ∙ ap (map rotation_of) babies_by
+  pub babies_logged : tabulate n (λ p. rotation_of (making (plan_babies slots strategy ks) (turn_by (powers_of slots strategy ks)) p)) ≡ map rotation_of (take n (baby_schedule slots strategy ks))
+  babies_logged = sym (map_tabulate rotation_of n (making (plan_babies slots strategy ks) (turn_by (powers_of slots strategy ks)))) ∙ ap (map rotation_of) babies_by
 
 -- ---- what the caching asks
 
 -- a multiple that is not 0 is no less than the step
-multiples_high : (step : ℕ) (cs : List ℕ) → 1 ≤ step → Each (λ b. step ≤ b) (nonzeros (map (λ k. k * step) cs))
-multiples_high step cs s =
+multiples_high : (step bits : ℕ) (cs : List ℕ) → 1 ≤ step → Each (λ b. StepUpTo b (Some (record { step = step; bits = bits }))) (nonzeros (map (λ k. k * step) cs))
+multiples_high step bits cs s =
     rw (nonzeros_times step cs s)
-    (each_map (λ b. step ≤ b) (λ k. k * step) (nonzeros cs)
-    (each_then (λ k l. let e : 1 * step ≤ k * step = mul-le-mul_right step l in omega (arith, one-mul step)) (nonzeros cs) (nonzeros_positive cs)))
+    (each_map (λ b. StepUpTo b (Some (record { step = step; bits = bits }))) (λ k. k * step) (nonzeros cs)
+    (each_then (λ k l. let e : 1 * step ≤ k * step = mul-le-mul_right step l in (s, omega (arith, one-mul step))) (nonzeros cs) (nonzeros_positive cs)))
 
-plan_steps : (slots : ℕ) (strategy : LinearTransformationStrategy) (ks : List ℕ) → Each (λ b. step_of slots strategy ks ≤ b) (nonzeros (plan_babies slots strategy ks))
+plan_steps : (slots : ℕ) (strategy : LinearTransformationStrategy) (ks : List ℕ) → Each (λ b. StepUpTo b (powers_of slots strategy ks)) (nonzeros (plan_babies slots strategy ks))
 unfolding step_of plan_babies
-plan_steps slots (Bsgs width) ks = each_all (λ b. omega arith) (nonzeros (plan_babies slots (Bsgs width) ks))
-plan_steps slots (BsgsPowersOfTwo width) ks = multiples_high (baby_step slots width ks) (closure 16 (baby_multiples slots width ks)) (step_positive slots width ks)
-plan_steps slots Direct ks = each_all (λ b. omega arith) (nonzeros (plan_babies slots Direct ks))
+plan_steps slots (Bsgs width) ks = each_all (λ b. tt) (nonzeros (plan_babies slots (Bsgs width) ks))
+plan_steps slots (BsgsPowersOfTwo width) ks = multiples_high (baby_step slots width ks) (bits_for slots (BsgsPowersOfTwo width) ks) (closure 16 (baby_multiples slots width ks)) (step_positive slots width ks)
+plan_steps slots Direct ks = each_all (λ b. tt) (nonzeros (plan_babies slots Direct ks))
 
 module _ (slots : ℕ) (strategy : LinearTransformationStrategy) (ks : List ℕ) (r : Range slots) where
   -- what its turn leaves of a baby is a baby
-  turn_left : (b : ℕ) → among b (plan_babies slots strategy ks) ≡ true → 1 ≤ b → among (b - turn_by (step_of slots strategy ks) b) (plan_babies slots strategy ks) ≡ true
+  turn_left : (b : ℕ) → among b (plan_babies slots strategy ks) ≡ true → 1 ≤ b → among (b - turn_by (powers_of slots strategy ks) b) (plan_babies slots strategy ks) ≡ true
   turn_left b a l = rw (turn_by_lem slots strategy ks b) (plan_turns slots r.low r.high strategy ks b a l).left
 
-  plan_closed : Each (λ b. among (b - turn_by (step_of slots strategy ks) b) (plan_babies slots strategy ks) ≡ true) (nonzeros (plan_babies slots strategy ks))
+  plan_closed : Each (λ b. among (b - turn_by (powers_of slots strategy ks) b) (plan_babies slots strategy ks) ≡ true) (nonzeros (plan_babies slots strategy ks))
   plan_closed =
       let bs = plan_babies slots strategy ks in
       each_both turn_left (nonzeros bs)
@@ -95,7 +93,7 @@ module _ (slots : ℕ) (strategy : LinearTransformationStrategy) (ks : List ℕ)
         room = rw (e, ← cache_room slots r.low r.high strategy ks) h;
       }
 
-  pub caching_of : {input cache : List ℕ} → length input ≡ slots → (length (plan_babies slots strategy ks) - 1) * slots ≤ length cache → Caching (plan_babies slots strategy ks) (step_of slots strategy ks) input cache
+  pub caching_of : {input cache : List ℕ} → length input ≡ slots → (length (plan_babies slots strategy ks) - 1) * slots ≤ length cache → Caching (plan_babies slots strategy ks) (powers_of slots strategy ks) input cache
   caching_of e h =
       record {
         babies = babies_of_lem e h;

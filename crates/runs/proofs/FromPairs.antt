@@ -1,7 +1,7 @@
 -- The giant switches of a plan with powers of two: its pairs by the places of the leaves, what the walk over them asks, and
 -- the answer.
 -- Assumes nothing.
-use Rattle.std.proofs.Common.{◌≡◌, ℕ, zero, suc, ◌*◌, ◌^◌, ◌<◌, ◌≤◌, false, List, [], ◌∷◌, map, length, get_or, take, sym, refl, ap, ◌∙◌, le_of_suc-le-suc, not-suc-le-zero, zero-mul, arith, pow_pos, pow_mono}
+use Rattle.std.proofs.Common.{◌≡◌, ℕ, zero, suc, ◌^◌, ◌<◌, ◌≤◌, false, List, [], ◌∷◌, map, length, get_or, take, sym, refl, ap, ◌∙◌, le_of_suc-le-suc, not-suc-le-zero, zero-mul, arith}
 use lib.ListN.{length-map}
 use Rattle.ring.specs.Lists.{Rising}
 use Rattle.ring.specs.Refusals.{Range}
@@ -24,7 +24,8 @@ use Rattle.runs.specs.Machines.{vector_at, top_node, answer_of}
 use Rattle.runs.specs.Laws.NodePlaces.{top_place}
 use Rattle.runs.specs.Laws.PairStarts.{levels_starts}
 use Rattle.runs.specs.Laws.TreeAnswers.{tree_leaves, length_leaves, leaf_low, tree_rises}
-use Rattle.runs.specs.Steps.Giants.{leaves_by, switch_at, starts, join_at, PairsAsked}
+use Rattle.runs.specs.Steps.Giants.{switch_at, starts, join_by}
+use Rattle.runs.specs.Steps.Leaves.{leaves_by, EachGiant}
 
 -- the top node of some leaves is the first vector
 by_top : (slots b : ℕ) (ls buffer : List ℕ) → 0 < length ls → get_or ls 0 0 < 2 ^ b → Rising ls → top_node slots b ls buffer ≡ take slots buffer
@@ -81,7 +82,7 @@ take_table f (suc n) (x ∷ xs) d h = ap (λ (t : List _). f x ∷ t) (take_tabl
 
 -- ---- its pairs, by the places of the leaves
 
-module _ (slots : ℕ) (strategy : LinearTransformationStrategy) (ks : List ℕ) (s : 1 ≤ step_of slots strategy ks) (size bits : ℕ) (eb : bits ≡ bits_for slots strategy ks) (es : size ≡ 2 ^ bits)
+module _ (slots : ℕ) (strategy : LinearTransformationStrategy) (ks : List ℕ) (s : 1 ≤ step_of slots strategy ks) {bits : ℕ} (eb : bits ≡ bits_for slots strategy ks)
     (r : Range slots) (w : width_outside strategy ≡ false) (d : Distinct slots ks) where
   abbrev width : ℕ
   width = width_of strategy
@@ -91,6 +92,9 @@ module _ (slots : ℕ) (strategy : LinearTransformationStrategy) (ks : List ℕ)
 
   abbrev gs : List ℕ
   gs = plan_giants slots strategy ks
+
+  abbrev leaves : List ℕ
+  leaves = leaves_by slots width (2 ^ bits) gs
 
   planned : Planned slots width ks
   planned = distinct_planned d width (width_positive strategy w)
@@ -102,39 +106,34 @@ module _ (slots : ℕ) (strategy : LinearTransformationStrategy) (ks : List ℕ)
   pub bits_low : bits ≤ 16
   bits_low = omega (arith, bits_are, tree_bits_low slots width ks planned.positive r.high)
 
-  leaves_are : leaves_by slots width size gs ≡ t.leaves
-  leaves_are = rw (es, bits_are) (sym (tree_leaves slots width ks))
+  leaves_are : leaves ≡ t.leaves
+  leaves_are = rw bits_are (sym (tree_leaves slots width ks))
 
   tree_starts : tree_schedule t ≡ map (switch_at slots width t.bits t.leaves (length t.leaves)) (starts t.leaves (length t.leaves) t.bits)
   unfolding plan_tree tree_of
   tree_starts = levels_starts slots width t.bits t.leaves (tree_rises slots width ks planned) (λ q l. leaf_low slots width ks q (rw (← length_leaves slots width ks) l))
 
-  switches_are : giant_schedule slots strategy ks ≡ map (switch_at slots width bits (leaves_by slots width size gs) (length gs)) (starts (leaves_by slots width size gs) (length gs) bits)
+  switches_are : giant_schedule slots strategy ks ≡ map (switch_at slots width bits leaves (length gs)) (starts leaves (length gs) bits)
   switches_are = schedule_is slots strategy ks s ∙ tree_starts ∙ rw (length_leaves slots width ks, leaves_are, bits_are) refl
 
+  -- the giants of the tree
+  pub plan_width : Range (width_of strategy)
+  plan_width = width_range strategy w
+
+  pub each_giant : EachGiant slots (width_of strategy) (plan_giants slots strategy ks)
+  each_giant = each_both (λ g l m. (l, m)) gs (giants_below slots width ks) (giants_multiple slots width ks)
+
+  pub rising_leaves : Rising (leaves_by slots (width_of strategy) (2 ^ bits) (plan_giants slots strategy ks))
+  rising_leaves = rw leaves_are (tree_rises slots width ks planned)
+
+  pub plan_giants_low : length (plan_giants slots strategy ks) ≤ 65536
+  plan_giants_low = omega (arith, giants_few slots width ks, r.high)
+
   module _ (n : ℕ) (h : n ≤ length (giant_schedule slots strategy ks)) where
-    few : n ≤ length (starts (leaves_by slots width size gs) (length gs) bits)
-    few = omega (arith, ap length switches_are ∙ length-map (starts (leaves_by slots width size gs) (length gs) bits) (switch_at slots width bits (leaves_by slots width size gs) (length gs)))
+    pub pairs_few : n ≤ length (starts (leaves_by slots (width_of strategy) (2 ^ bits) (plan_giants slots strategy ks)) (length (plan_giants slots strategy ks)) bits)
+    pairs_few = omega (arith, ap length switches_are ∙ length-map (starts leaves (length gs) bits) (switch_at slots width bits leaves (length gs)))
 
     -- the first switches, as a table over the starts
-    pub pairs_by : tabulate n (join_at (plan_giants slots strategy ks) (width_of strategy) slots size bits) ≡ take n (giant_schedule slots strategy ks)
-    pairs_by = take_table (switch_at slots width bits (leaves_by slots width size gs) (length gs)) n (starts (leaves_by slots width size gs) (length gs) bits) 0 few ∙ ap (take n) (sym switches_are)
-
-    -- what the walk over them asks
-    pub pairs_of : (k : ℕ) → length (plan_giants slots strategy ks) * slots ≤ k → PairsAsked (plan_giants slots strategy ks) (width_of strategy) slots size bits n k
-    pairs_of k room =
-        record {
-          leafy =
-              record {
-                slots_in_fact = r;
-                width_in = width_range strategy w;
-                each = each_both (λ g l m. record { reduced = l; multiple = m }) gs (giants_below slots width ks) (giants_multiple slots width ks);
-                rises = rw leaves_are (tree_rises slots width ks planned);
-              };
-          some = rw es (pow_pos bits);
-          small = rw es (pow_mono {i = bits} {j = 16} bits_low);
-          bits_low = bits_low;
-          giants_low = omega (arith, giants_few slots width ks, r.high);
-          few = few;
-          room = room;
-        }
+    pub pairs_by : tabulate n (λ q. join_by (plan_giants slots strategy ks) (width_of strategy) slots bits q)
+        ≡ take n (giant_schedule slots strategy ks)
+    pairs_by = take_table (switch_at slots width bits leaves (length gs)) n (starts leaves (length gs) bits) 0 pairs_few ∙ ap (take n) (sym switches_are)

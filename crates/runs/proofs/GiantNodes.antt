@@ -8,7 +8,7 @@ use Rattle.ring.specs.Laws.Searches.{lt_or_ge}
 use Rattle.ring.specs.Laws.Vectors.{length_tabulate, get_or_tabulate, length_in_front, in_front_new, in_front_old, join_tables}
 use Rattle.diagonals.specs.Maps.{start_at}
 use Rattle.ring.specs.Laws.Places.{length_put_at, put_at_before, put_at_new, put_at_behind}
-use Rattle.runs.specs.Steps.Nodes.{GiantAsked, PartAsked, PartMade, NodesAsked, node_slot, MadeTo, TileAsked, TileMade, NodesMade}
+use Rattle.runs.specs.Steps.Nodes.{PartMade, NodesAsked, node_slot, MadeTo, TileAsked, TileMade, NodesMade}
 
 -- ---- parts of vectors
 
@@ -121,16 +121,6 @@ module _ {f : ℕ → ℕ → ℕ} {n slots : ℕ} {old : List ℕ} where
                 (λ (b : n * slots ≤ i). m.behind i b ∙ sym (in_front_old words old i 0 (omega (arith, size))))
                 (lt_or_ge i (n * slots))
 
--- the slots up to which all is made may be said in another way
-made_same : {f : ℕ → ℕ → ℕ} {n slots : ℕ} {upto upto' : ℕ → ℕ} {old new : List ℕ} → ((q : ℕ) → q < n → upto' q ≡ upto q) → MadeTo f n slots upto old new → MadeTo f n slots upto' old new
-made_same e m =
-    record {
-      len = m.len;
-      done = λ p s l h b. m.done p s l h (rw (e p l) at b);
-      todo = λ p s l h b. m.todo p s l h (rw (e p l) at b);
-      behind = m.behind;
-    }
-
 -- ---- a tile
 
 -- the nodes before place p are made `size` slots further
@@ -155,24 +145,9 @@ module _ (bs gs cuts pairs values input cache : List ℕ) where
     pub further : (old : List ℕ) → MadeTo node (length gs) (length input) (λ q. slot) old nodes₀ → MadeTo node (length gs) (length input) (tile_to slot size p) old nodes
 
   module _ {slot size : ℕ} {nodes₀ : List ℕ} (t : TileAsked bs gs cuts pairs values input cache slot size nodes₀) where
-    pub tiling_none : Tiling slot size nodes₀ nodes₀ 0 0
-    tiling_none =
-        record {
-          room = omega arith;
-          len = refl;
-          at_is = λ l. ap (start_at pairs) (sym (t.asked.first l));
-          further = λ old. made_same (λ q l. rw (le-ltb q 0 (omega arith)));
-        }
-
     module _ {nodes : List ℕ} {at p : ℕ} (n : Tiling slot size nodes₀ nodes at p) (l : p < length gs) where
       pub part_room : p * length input + slot + size ≤ length nodes
       part_room = omega (arith, vector_room p (length gs) (length input) l, t.asked.room, t.inside, n.len)
-
-      pub giant_asked : {g first count : ℕ} → g ≡ get_or gs p 0 → first ≡ get_or cuts (2 * p) 0 → count ≡ get_or cuts (2 * p + 1) 0 → GiantAsked bs g first count at pairs values input cache
-      giant_asked e f s = let a = t.asked in record { count = a.count; few = a.few; formed = a.formed; babies = a.babies; run = rw (e, f, s) (a.runs p l); start_is = rw f (n.at_is l) }
-
-      pub part_asked : PartAsked slot input (take (p * length input + slot + size - (p * length input + slot)) (drop (p * length input + slot) nodes))
-      part_asked = record { inside = omega (arith, t.inside, part_length nodes size (p * length input + slot) part_room) }
 
       pub tiling_more : {g first count end size' : ℕ} → g ≡ get_or gs p 0 → first ≡ get_or cuts (2 * p) 0 → count ≡ get_or cuts (2 * p + 1) 0 → size' ≡ size → {ys : List ℕ} → PartMade bs g first count pairs values input cache slot size' ys end
           → Tiling slot size nodes₀ (take (p * length input + slot) nodes ++ (ys ++ drop (p * length input + slot + size - (p * length input + slot)) (drop (p * length input + slot) nodes))) end (p + 1)
@@ -200,9 +175,6 @@ module _ (bs gs cuts pairs values input cache : List ℕ) where
           whole : take (p * length input + slot) nodes ++ (ys ++ drop (p * length input + slot + size - (p * length input + slot)) (drop (p * length input + slot) nodes)) ≡ put_at start ys nodes
           whole = ap (λ (x : ℕ). take start nodes ++ (ys ++ drop x (drop start nodes))) (let q : p * length input + slot + size - (p * length input + slot) ≡ length ys = omega (arith, size_is) in q)
 
-  pub tiling_done : {slot size at p : ℕ} {nodes₀ nodes : List ℕ} → Tiling slot size nodes₀ nodes at p → length gs ≤ p → TileMade bs gs cuts pairs values input cache slot size nodes₀ nodes
-  tiling_done {slot} {size} {at} {p} n h = record { len = n.len; further = λ old m. made_same (λ q l. let b : q < p = omega arith in rw (lt-ltb q p b)) (n.further old m) }
-
   -- ---- all tiles
 
   pub record Noding (old nodes : List ℕ) (slot : ℕ) : Type 0 where
@@ -211,13 +183,6 @@ module _ (bs gs cuts pairs values input cache : List ℕ) where
 
   module _ {old : List ℕ} (a : NodesAsked bs gs cuts pairs values input cache old) where
     module _ {nodes : List ℕ} {slot : ℕ} (n : Noding old nodes slot) where
-      pub tile_asked : {size : ℕ} → size ≤ length input - slot → TileAsked bs gs cuts pairs values input cache slot size nodes
-      tile_asked h =
-          record {
-            asked = record { count = a.count; few = a.few; formed = a.formed; babies = a.babies; sizes = a.sizes; runs = a.runs; first = a.first; next = a.next; room = omega (arith, a.room, n.made.len) };
-            inside = omega (arith, n.room);
-          }
-
       pub noding_more : {size : ℕ} {new : List ℕ} → size ≤ length input - slot → TileMade bs gs cuts pairs values input cache slot size nodes new → Noding old new (slot + size)
       noding_more h t = record { room = omega (arith, n.room); made = t.further old n.made }
 

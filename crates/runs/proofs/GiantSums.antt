@@ -1,6 +1,6 @@
 -- A part of the node of a giant: its diagonals added one after the other.
 -- Assumes nothing.
-use Rattle.std.proofs.Common.{◌≡◌, ℕ, zero, suc, ◌+◌, ◌-◌, ◌%◌, ◌<◌, ◌≤◌, true, List, length, get_or, take, drop, sym, refl, ap, ◌∙◌, add-zero, mod-lt, arith, length-drop, length-take, get_or-drop, get_or-take}
+use Rattle.std.proofs.Common.{◌≡◌, ℕ, zero, suc, ◌+◌, ◌-◌, ◌%◌, ◌<◌, ◌≤◌, true, List, length, get_or, take, drop, sym, refl, ap, ◌∙◌, add-zero, arith, length-drop, length-take, get_or-drop, get_or-take}
 use native.Mathlib.Nat.{mod-add-mod, mod-mod_of_dvd}
 use Rattle.ring.specs.Slots.{modulus, addm, mulm}
 use Rattle.ring.specs.Lists.{sum_by, among}
@@ -10,14 +10,18 @@ use Rattle.ring.specs.Laws.Lists.{sum_by_snoc}
 use Rattle.ring.specs.Laws.Vectors.{length_tabulate, get_or_tabulate, tabulate_cong, tabulate_more}
 use Rattle.diagonals.specs.Maps.{length_at, offset_at, start_at, diagonal_at}
 use Rattle.diagonals.specs.Products.{cell}
-use Rattle.diagonals.specs.Laws.Maps.{start_more, values_end, stored_some}
+use Rattle.diagonals.specs.Laws.Maps.{start_more, values_end}
 use Rattle.linear_transformation.specs.Closures.{nonzeros}
+use Rattle.std.specs.Prelude.{replicate}
+use Rattle.runs.proofs.Parts.{cleared}
 use Rattle.runs.specs.Switches.{place_of, source_of}
 use Rattle.runs.specs.Machines.{source_vector}
 use Rattle.runs.specs.Laws.Places.{inside_first, length_vector_at}
+use Rattle.ring.specs.Lists.{among}
+use Rattle.runs.proofs.Babies.{baby_read}
 use Rattle.runs.specs.Steps.Keyed.{Babies, Reading, node_term, node_run}
-use Rattle.runs.specs.Steps.Plain.{Around, around_added}
-use Rattle.runs.specs.Steps.Nodes.{GiantAsked, PartMade}
+use Rattle.runs.specs.Steps.Plain.{around_added}
+use Rattle.runs.specs.Steps.Nodes.{GiantAsked}
 use Rattle.runs.proofs.Babies.{place_within}
 
 -- a rotated input is as long as the input
@@ -34,13 +38,13 @@ pub record Running (bs : List ℕ) (g first n : ℕ) (pairs values input cache :
   pub len : length part ≡ size
   pub table_len : length table ≡ 512
 
-pub running_none : {bs : List ℕ} {g first n start slot size : ℕ} {pairs values input cache part table : List ℕ} → GiantAsked bs g first n start pairs values input cache → part ≡ tabulate size (λ j. 0) → length table ≡ 512 → Running bs g first n pairs values input cache slot size part table start 0
-running_none {first} {size} {pairs} a e t =
+pub running_none : {bs : List ℕ} {g first n start slot size : ℕ} {pairs values input cache part table : List ℕ} → GiantAsked bs g first n start pairs values input cache → part ≡ replicate {A = ℕ} size 0 → length table ≡ 512 → Running bs g first n pairs values input cache slot size part table start 0
+running_none {first} {size = size} {pairs} a e t =
     record {
       room = omega arith;
       at_is = a.start_is ∙ ap (start_at pairs) (sym (add-zero first));
-      sum = e;
-      len = ap length e ∙ length_tabulate {A = ℕ} size (λ j. 0);
+      sum = cleared size e;
+      len = ap length (cleared size e) ∙ length_tabulate {A = ℕ} size (λ j. 0);
       table_len = t;
     }
 
@@ -49,17 +53,13 @@ module _ {bs : List ℕ} {g first n start slot size at i : ℕ} {pairs values in
   within = omega (arith, a.run.inside)
 
   pub reading : {o : ℕ} → o ≡ offset_at pairs (first + i) → Reading bs (o - g) input cache
-  reading e = record { babies = a.babies; has = rw e (a.run.has i l) }
-
-  pub above : {o : ℕ} → o ≡ offset_at pairs (first + i) → g ≤ o
-  above e = omega (arith, a.run.above i l)
+  reading {o} e =
+      let has : among (o - g) bs ≡ true = rw e (a.run.has i l) in
+      record { rises = a.babies.rises; front = a.babies.front; has = has; room = baby_read (o - g) a.babies has }
 
   module _ {len : ℕ} (e : len ≡ length_at pairs (first + i)) where
     pub values_inside : at + len ≤ length values
     values_inside = omega (arith, r.at_is, values_end a.formed (first + i) within)
-
-    pub len_some : 1 ≤ len
-    len_some = omega (arith, stored_some a.formed (first + i) within)
 
     abbrev period : List ℕ
     period = take (at + len - at) (drop at values)
@@ -79,13 +79,6 @@ module _ {bs : List ℕ} {g first n start slot size at i : ℕ} {pairs values in
       words = take (slot + size - slot) (drop slot vector)
 
       module _ {back : ℕ} (b : back ≡ slot + length input - g) where
-        pub asked : Around period (back % len) words part
-        asked =
-            record {
-              low = rw period_length (mod-lt back len_some);
-              same = simp (length-take, length-drop) (omega (arith, vector_length, r.len));
-            }
-
         -- the period at back + j is the diagonal at slot s - g
         turned : (j : ℕ) → cell period (back % len + j) ≡ cell (diagonal_at pairs values (first + i)).values ((slot + j + (length input - g)) % length input)
         turned j =
@@ -117,8 +110,3 @@ module _ {bs : List ℕ} {g first n start slot size at i : ℕ} {pairs values in
               len = ap length e' ∙ length_tabulate size _;
               table_len = t ∙ r.table_len;
             }
-
-pub running_done : {bs : List ℕ} {g first n slot size at i : ℕ} {pairs values input cache part table : List ℕ} → Running bs g first n pairs values input cache slot size part table at i → n ≤ i → PartMade bs g first n pairs values input cache slot size part at
-running_done {bs} {g} {first} {n} {slot} {size} {at} {i} {pairs} {values} {input} {cache} r h =
-    let e : i ≡ n = omega (arith, r.room) in
-    record { part_is = r.sum ∙ ap (λ (x : ℕ). tabulate size (λ j. node_run modulus (length input) bs pairs values input cache g first x (slot + j))) e; end = r.at_is ∙ ap (λ (x : ℕ). start_at pairs (first + x)) e }

@@ -1,10 +1,10 @@
 -- What the loops keep, and a turn of each; the parts that are lent.
+pub mod Accepted
 pub mod Parts
 pub mod Arounds
 pub mod Copies
 pub mod Adding
 pub mod Putting
-pub mod Reversing
 pub mod TwoRuns
 pub mod Babies
 pub mod GiantSums

@@ -11,7 +11,7 @@ use Rattle.diagonals.specs.Maps.{Diagonal, offsets_of, view}
 use Rattle.linear_transformation.specs.declared.LinearTransformationStrategy.{LinearTransformationStrategy}
 use Rattle.linear_transformation.specs.Closures.{nonzeros}
 use Rattle.linear_transformation.specs.Schedules.{plan_babies}
-use Rattle.runs.specs.declared.keyed.Survey.{Survey}
+use Rattle.runs.specs.declared.surveying.Survey.{Survey}
 use Rattle.runs.specs.Switches.{Switch, rotation_of, baby_schedule, giant_schedule, schedule}
 use Rattle.runs.specs.Machines.{State, switched_all, node_words, answer_of, with_nodes, with_answer, machine}
 use Rattle.runs.specs.Laws.Switching.{OfCache, OfNodes, babies_leave, giants_leave, switches_out, babies_of_cache, giants_of_nodes}
@@ -22,7 +22,7 @@ use Rattle.runs.specs.Steps.Keyed.{cache_by, nodes_by, Caching, BabiesMade}
 use Rattle.runs.specs.Steps.Runs.{RunAsked, GiantsLeft, RunLeft}
 use Rattle.runs.proofs.FromBabies.{caching_of, babies_by, babies_logged}
 use Rattle.ring.specs.Laws.Places.{put_both}
-use Rattle.runs.proofs.Running.{take_least, babies_are, step_is, own_switches, all_switches, babies_part}
+use Rattle.runs.proofs.Running.{take_least, babies_are, powers_are, own_switches, all_switches, babies_part}
 
 -- ---- the machine's parts
 
@@ -121,8 +121,8 @@ module _ {strategy : LinearTransformationStrategy} {survey : Survey} {offsets pa
   abbrev state : State
   state = record { cache = cache; nodes = nodes; log = log; out = out; made = 0 }
 
-  pub babies_asked : Caching bs survey.step input cache
-  babies_asked = rw (babies_part a, step_is a) (caching_of slots strategy (offsets_of map_is) a.taken.range refl (rw (← babies_are a) a.cache_room))
+  pub babies_asked : Caching bs survey.powers input cache
+  babies_asked = rw (babies_part a, powers_are a) (caching_of slots strategy (offsets_of map_is) a.taken.range refl (rw (← babies_are a) a.cache_room))
 
   own_nonzeros : survey.babies - 1 ≡ length (nonzeros (plan_babies slots strategy (offsets_of map_is)))
   own_nonzeros = own_switches a ∙ baby_count slots strategy (offsets_of map_is)
@@ -137,30 +137,15 @@ module _ {strategy : LinearTransformationStrategy} {survey : Survey} {offsets pa
     pub first_logged : first ≤ length log
     first_logged = omega (arith, a.log_room, all_switches a)
 
-    pub again : {cache' log' : List ℕ} → length cache' ≡ length cache → length log' ≡ length log → RunAsked strategy survey offsets pairs values input plan cache' nodes log' out
-    again c l =
-        record {
-          taken = a.taken;
-          survey_is = a.survey_is;
-          offsets_are = a.offsets_are;
-          old_plan = a.old_plan;
-          plan_is = a.plan_is;
-          plan_room = a.plan_room;
-          cache_room = omega (arith, a.cache_room);
-          nodes_room = a.nodes_room;
-          log_room = omega (arith, a.log_room);
-          out_room = a.out_room;
-        }
-
-    module _ {cache' log' : List ℕ} (b : BabiesMade bs survey.step first input cache cache' log log') where
+    module _ {cache' log' : List ℕ} (b : BabiesMade bs survey.powers first input cache cache' log log') where
       firsts : take first all_babies ≡ take n all_babies
       firsts = take_least all_babies n first (e ∙ ap (min n) (own_switches a))
 
       cache_is : cache' ≡ cache_by slots input cache (take n all_babies)
-      cache_is = b.cache ∙ rw (babies_part a, step_is a, babies_by slots strategy (offsets_of map_is) first_low, firsts)
+      cache_is = b.cache ∙ rw (babies_part a, powers_are a, babies_by slots strategy (offsets_of map_is) first_low, firsts)
 
       log_is : log' ≡ in_front (map rotation_of (take n all_babies)) log
-      log_is = b.logged ∙ rw (babies_part a, step_is a) (ap (λ (t : List ℕ). in_front t log) (babies_logged slots strategy (offsets_of map_is) first_low ∙ ap (map rotation_of) firsts))
+      log_is = b.logged ∙ rw (babies_part a, powers_are a) (ap (λ (t : List ℕ). in_front t log) (babies_logged slots strategy (offsets_of map_is) first_low ∙ ap (map rotation_of) firsts))
 
       log_room : length (schedule slots strategy (offsets_of map_is)) ≤ length log
       log_room = omega (arith, a.log_room, all_switches a, own_switches a, length-append all_babies all_giants)

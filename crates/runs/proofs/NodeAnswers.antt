@@ -1,25 +1,17 @@
 -- The answer: nodes added one after the other, and the top node copied.
 -- Assumes nothing.
-use Rattle.std.proofs.Common.{◌≡◌, ℕ, zero, suc, ◌+◌, ◌-◌, ◌*◌, ◌%◌, ◌<◌, ◌≤◌, List, length, get_or, take, drop, pos, sym, refl, ap, ◌∙◌, mul-le-mul_right, one-mul, arith, length-take-le}
-use native.Mathlib.Nat.{dvd_refl}
+use Rattle.std.proofs.Common.{◌≡◌, ℕ, ◌+◌, ◌-◌, ◌*◌, ◌<◌, ◌≤◌, List, length, get_or, take, drop, sym, ap, ◌∙◌, arith}
 use Rattle.ring.specs.Slots.{modulus, addm}
 use Rattle.ring.specs.Lists.{sum_by}
-use Rattle.ring.specs.Vectors.{tabulate, Filling}
-use Rattle.ring.specs.Rotations.{rotated}
+use Rattle.ring.specs.Vectors.{tabulate}
 use Rattle.ring.specs.Laws.Lists.{sum_by_snoc}
-use Rattle.ring.specs.Laws.Rotations.{rotated_none}
-use Rattle.ring.specs.Laws.Vectors.{length_tabulate, get_or_tabulate, tabulate_cong, tabulate_more, filling_rest}
-use Rattle.ring.specs.Laws.Divisors.{divides_yes}
-use Rattle.ring.specs.Laws.Refusals.{not_outside, on_accept_accepted}
-use Rattle.diagonals.specs.Calls.{Rotated}
+use Rattle.ring.specs.Laws.Vectors.{length_tabulate, get_or_tabulate, tabulate_cong, tabulate_more}
+use Rattle.std.specs.Prelude.{replicate}
 use Rattle.runs.specs.Machines.{vector_at, node_sum}
 use Rattle.runs.specs.Laws.Places.{inside_first}
-use Rattle.runs.specs.Steps.Runs.{vector_added, AnswerAsked, answer_by}
-
--- a word that the loop adds
-pub added_slot : (v : List ℕ) {old new : List ℕ} {s : ℕ} → Filling (vector_added v old) old new s → (get_or new s 0 + get_or v s 0) % modulus ≡ vector_added v old s
-unfolding addm
-added_slot v {s = s} f = rw (filling_rest f s 0 (omega arith))
+use Rattle.runs.specs.Steps.Keyed.{vector_added}
+use Rattle.runs.proofs.Parts.{cleared}
+use Rattle.runs.specs.Steps.Runs.{top_by}
 
 table_of : (slots : ℕ) (nodes : List ℕ) (k : ℕ) → node_sum modulus slots k nodes ≡ tabulate slots (λ s. get_or (node_sum modulus slots k nodes) s 0)
 unfolding node_sum
@@ -31,9 +23,9 @@ pub record Summed (n : ℕ) (nodes : List ℕ) (slots : ℕ) (out : List ℕ) (p
   pub len : length out ≡ slots
   pub room : p ≤ n
 
-pub summed_none : (n : ℕ) (nodes : List ℕ) (slots : ℕ) {out : List ℕ} → out ≡ tabulate slots (λ s. 0) → Summed n nodes slots out 0
+pub summed_none : (n : ℕ) (nodes : List ℕ) (slots : ℕ) {out : List ℕ} → out ≡ replicate {A = ℕ} slots 0 → Summed n nodes slots out 0
 unfolding node_sum
-summed_none n nodes slots e = record { sum = e; len = ap length e ∙ length_tabulate {A = ℕ} slots (λ s. 0); room = omega arith }
+summed_none n nodes slots e = record { sum = cleared slots e; len = ap length (cleared slots e) ∙ length_tabulate {A = ℕ} slots (λ s. 0); room = omega arith }
 
 module _ {n slots p : ℕ} {nodes out : List ℕ} (u : Summed n nodes slots out p) (l : p < n) (h : n * slots ≤ length nodes) where
   pub inside : p * slots + slots ≤ length nodes
@@ -64,29 +56,7 @@ module _ {n slots p : ℕ} {nodes out : List ℕ} (u : Summed n nodes slots out 
       whole : new ≡ node_sum modulus slots (p + 1) nodes
       whole = e ∙ ap (λ (x : ℕ). tabulate x (vector_added part out)) u.len ∙ tabulate_cong slots _ _ slot ∙ sym (table_of slots nodes (p + 1))
 
-pub summed_done : {n slots p : ℕ} {nodes out : List ℕ} → Summed n nodes slots out p → n ≤ p → out ≡ node_sum modulus slots n nodes
-summed_done {n} {slots} {p} {nodes} u h = u.sum ∙ ap (λ (x : ℕ). node_sum modulus slots x nodes) (let e : p ≡ n = omega (arith, u.room) in e)
+-- ---- the answer
 
--- ---- by the step
-
-pub answer_own : (step giants : ℕ) (nodes : List ℕ) (slots : ℕ) {out : List ℕ} → step ≡ 0 → out ≡ node_sum modulus slots giants nodes → out ≡ answer_by step giants nodes slots
-answer_own step giants nodes slots e q = q ∙ rw e
-
-pub answer_none : (step giants : ℕ) (nodes : List ℕ) (slots : ℕ) {out : List ℕ} → (step ≡ 0 → ⊥) → giants ≡ 0 → out ≡ tabulate slots (λ s. 0) → out ≡ answer_by step giants nodes slots
-answer_none zero giants nodes slots h e q = absurd (h refl)
-answer_none (suc c) giants nodes slots h e q = q ∙ rw e
-
--- there is a first vector
-pub whole_front : {giants : ℕ} {nodes out : List ℕ} → AnswerAsked giants nodes out → (giants ≡ 0 → ⊥) → length out ≤ length nodes
-whole_front {giants} {nodes} {out} a h =
-    let e : 1 * length out ≤ giants * length out = mul-le-mul_right (length out) (omega arith) in
-    omega (arith, a.room, one-mul (length out), e)
-
-pub answer_top : (step giants : ℕ) {nodes out new : List ℕ} {r : ℕ} → (step ≡ 0 → ⊥) → (giants ≡ 0 → ⊥) → AnswerAsked giants nodes out → Rotated (take (length out) nodes) (pos 0) out new r → new ≡ answer_by step giants nodes (length out)
-answer_top zero giants h k a t = absurd (h refl)
-answer_top (suc c) zero h k a t = absurd (k refl)
-answer_top (suc c) (suc g) {nodes} {out} {new} {r} h k a t =
-    let first : length out ≤ length nodes = whole_front a k in
-    let len : length (take (length out) nodes) ≡ length out = length-take-le (length out) nodes first in
-    let accepted : r ≡ 0 = t.answer ∙ rw (len, not_outside (length out) a.some a.small, divides_yes (length out) (length out) (dvd_refl (length out))) in
-    t.out ∙ on_accept_accepted r _ _ accepted ∙ ap (rotated (take (length out) nodes) (pos 0)) (sym len) ∙ rotated_none (take (length out) nodes)
+pub none_by : (giants : ℕ) (nodes : List ℕ) (slots : ℕ) {out : List ℕ} → giants ≡ 0 → out ≡ replicate {A = ℕ} slots 0 → out ≡ top_by giants nodes slots
+none_by giants nodes slots e q = cleared slots q ∙ rw e

@@ -1,25 +1,49 @@
 -- The giant switches of a plan: by their own rotations, or by the pairs of the tree; they are the first switches of the
 -- schedule.
 -- Assumes nothing.
-use Rattle.std.proofs.Common.{◌≡◌, ℕ, ◌-◌, ◌*◌, ◌%◌, ◌^◌, ◌<◌, ◌≤◌, List, length, take, sym, refl, ◌∙◌, mod-eq_of_lt, one-mul, arith}
-use lib.Pow.{pow-lt}
+use Rattle.std.proofs.Common.{◌≡◌, ℕ, ◌-◌, ◌*◌, ◌^◌, ◌<◌, ◌≤◌, List, length, take, sym, refl, ap, ◌∙◌, arith}
 use Rattle.ring.specs.Vectors.{tabulate}
 use Rattle.ring.specs.Laws.Vectors.{map_tabulate}
 use Rattle.linear_transformation.specs.declared.LinearTransformationStrategy.{LinearTransformationStrategy}
 use Rattle.linear_transformation.specs.Plans.{width_of}
 use Rattle.linear_transformation.specs.Stored.{step_of, bits_for}
+use Rattle.linear_transformation.specs.declared.LinearTransformationStrategy.TheVariants.{Bsgs, BsgsPowersOfTwo, Direct}
+use Rattle.std.specs.Prelude.{Option, None, Some}
+use Rattle.runs.specs.declared.surveying.Powers.{Powers}
 use Rattle.runs.specs.Switches.{rotation_of, giant_schedule}
-use Rattle.runs.specs.Steps.Giants.{turn_at, join_at, TurnsAsked, GiantsTurned, PairsAsked, PairsJoined}
+use Rattle.runs.specs.Laws.Schedules.{step_positive}
+use Rattle.runs.specs.Steps.Surveys.{powers_of}
+use Rattle.runs.specs.declared.tree.Tree.{Tree}
+use Rattle.runs.specs.Steps.Leaves.{leaves_by, EachGiant}
+use Rattle.ring.specs.Lists.{Rising}
+use Rattle.ring.specs.Refusals.{Range}
+use Rattle.linear_transformation.specs.Schedules.{plan_giants}
+use Rattle.runs.specs.Steps.Giants.{turn_at, leaves_of, starts, join_by, join_at, TurnsAsked, GiantsTurned, PairsAsked, PairsJoined}
 use Rattle.runs.specs.Steps.Runs.{TurningAsked, NodesTurned}
 use Rattle.runs.proofs.FromGiants as Own
-use Rattle.runs.proofs.FromPairs as Powers
+use Rattle.runs.proofs.FromPairs as Pairs
 
--- ---- by the step
+-- ---- whether it is by powers of two
+
+pub no_powers : (slots : ℕ) (strategy : LinearTransformationStrategy) (ks : List ℕ) → powers_of slots strategy ks ≡ None → step_of slots strategy ks ≡ 0
+unfolding step_of
+no_powers slots (Bsgs width) ks e = refl
+no_powers slots (BsgsPowersOfTwo width) ks e = cc
+no_powers slots Direct ks e = refl
+
+pub some_powers : (slots : ℕ) (strategy : LinearTransformationStrategy) (ks : List ℕ) (p : Powers) → powers_of slots strategy ks ≡ Some p → (1 ≤ step_of slots strategy ks) × (p.bits ≡ bits_for slots strategy ks)
+unfolding step_of
+some_powers slots (Bsgs width) ks p e = cc
+some_powers slots (BsgsPowersOfTwo width) ks p e = (step_positive slots width ks, ap (λ (x : Powers). x.bits) (same e))
+  where
+    same : {x y : Powers} → ◌≡◌ {A = Option Powers} (Some x) (Some y) → y ≡ x
+    same h = cc
+some_powers slots Direct ks p e = cc
 
 -- each by its own rotation
-module _ {strategy : LinearTransformationStrategy} {made slots : ℕ} {ks gs nodes log : List ℕ} {logged : ℕ} (a : TurningAsked strategy made slots ks gs nodes log logged) {step turns : ℕ} (e : step ≡ step_of slots strategy ks) (n : turns ≡ length (giant_schedule slots strategy ks)) (z : step ≡ 0) where
+module _ {strategy : LinearTransformationStrategy} {made slots : ℕ} {ks gs nodes log : List ℕ} {logged : ℕ} (a : TurningAsked strategy made slots ks gs nodes log logged) {powers : Option Powers} {turns : ℕ} (e : powers ≡ powers_of slots strategy ks) (n : turns ≡ length (giant_schedule slots strategy ks)) (z : powers ≡ None) where
   own : step_of slots strategy ks ≡ 0
-  own = sym e ∙ z
+  own = no_powers slots strategy ks (sym e ∙ z)
 
   pub turns_inside : turns ≤ length gs
   turns_inside = rw (a.giants_are, n) (Own.giants_fewer slots strategy ks own)
@@ -34,24 +58,45 @@ module _ {strategy : LinearTransformationStrategy} {made slots : ℕ} {ks gs nod
       switches = rw (a.giants_are, n) (Own.giants_by slots strategy ks own made a.few)
 
 -- with powers of two
-module _ {strategy : LinearTransformationStrategy} {made slots : ℕ} {ks gs nodes log : List ℕ} {logged : ℕ} (a : TurningAsked strategy made slots ks gs nodes log logged) {step bits : ℕ} (e : step ≡ step_of slots strategy ks) (b : bits ≡ bits_for slots strategy ks) (z : step ≡ 0 → ⊥) where
+module _ {strategy : LinearTransformationStrategy} {made slots : ℕ} {ks gs nodes log : List ℕ} {logged : ℕ} (a : TurningAsked strategy made slots ks gs nodes log logged) {powers : Option Powers} {p : Powers} (e : powers ≡ powers_of slots strategy ks) (z : powers ≡ Some p) where
   some : 1 ≤ step_of slots strategy ks
-  some = omega (arith, e, z)
+  some = (some_powers slots strategy ks p (sym e ∙ z)).0
 
-  pub bits_low : bits < 32
-  bits_low = omega (arith, Powers.bits_low slots strategy ks some (2 ^ bits) bits b refl a.range a.width a.distinct)
+  b : p.bits ≡ bits_for slots strategy ks
+  b = (some_powers slots strategy ks p (sym e ∙ z)).1
 
-  size_is : 1 * 2 ^ bits % 4294967296 ≡ 2 ^ bits
-  size_is = let low : 2 ^ bits < 4294967296 = pow-lt bits_low in rw (one-mul (2 ^ bits)) (mod-eq_of_lt low)
+  pub bits_low : p.bits < 32
+  bits_low = omega (arith, Pairs.bits_low slots strategy ks some b a.range a.width a.distinct)
 
   module _ {width : ℕ} (v : width ≡ width_of strategy) where
-    pub pairs_asked : PairsAsked gs width slots (1 * 2 ^ bits % 4294967296) bits made (length nodes)
-    pairs_asked =
-        rw (a.giants_are, v)
-        (Powers.pairs_of slots strategy ks some _ bits b size_is a.range a.width a.distinct made a.few (length nodes) (rw (← a.giants_are) a.room))
+    -- the facts that the tree over the giants keeps
+    pub tree_width : Range width
+    tree_width = rw v (Pairs.plan_width slots strategy ks some b a.range a.width a.distinct)
 
-    pub turned_pairs : {nodes' log' : List ℕ} → PairsJoined gs width slots (1 * 2 ^ bits % 4294967296) bits made nodes nodes' log log' logged → NodesTurned strategy made slots ks nodes nodes' log log' logged
-    turned_pairs j = record { turned = j.joined_all ∙ rw switches; logs = j.logs ∙ rw (← map_tabulate rotation_of made (join_at gs width slots (1 * 2 ^ bits % 4294967296) bits), switches) }
-      where
-        switches : tabulate made (join_at gs width slots (1 * 2 ^ bits % 4294967296) bits) ≡ take made (giant_schedule slots strategy ks)
-        switches = rw (a.giants_are, v) (Powers.pairs_by slots strategy ks some _ bits b size_is a.range a.width a.distinct made a.few)
+    pub tree_bits : p.bits ≤ 16
+    tree_bits = Pairs.bits_low slots strategy ks some b a.range a.width a.distinct
+
+    pub tree_giants : EachGiant slots width gs
+    tree_giants = rw (a.giants_are, v) (Pairs.each_giant slots strategy ks some b a.range a.width a.distinct)
+
+    pub tree_leaves : Rising (leaves_by slots width (2 ^ p.bits) gs)
+    tree_leaves = rw (a.giants_are, v) (Pairs.rising_leaves slots strategy ks some b a.range a.width a.distinct)
+
+    -- a tree over the giants
+    module _ (t : Tree) (g : t.giants.now ≡ gs) (w : t.width ≡ width) (s : t.slots ≡ slots) (q : t.bits ≡ p.bits) where
+      pub pairs_asked : PairsAsked t made (length nodes)
+      pairs_asked =
+          record {
+            giants_low = let e : length t.giants.now ≡ length (plan_giants slots strategy ks) = cc (g, a.giants_are) in omega (arith, e, Pairs.plan_giants_low slots strategy ks some b a.range a.width a.distinct);
+            few = few (Pairs.pairs_few slots strategy ks some b a.range a.width a.distinct made a.few);
+            room = let e : length t.giants.now * t.slots ≡ length gs * slots = cc (g, s) in omega (arith, e, a.room);
+          }
+        where
+          few : made ≤ length (starts (leaves_by slots (width_of strategy) (2 ^ p.bits) (plan_giants slots strategy ks)) (length (plan_giants slots strategy ks)) p.bits) → made ≤ length (starts (leaves_of t) (length t.giants.now) t.bits)
+          few h = let e : length (starts (leaves_of t) (length t.giants.now) t.bits) ≡ length (starts (leaves_by slots (width_of strategy) (2 ^ p.bits) (plan_giants slots strategy ks)) (length (plan_giants slots strategy ks)) p.bits) = cc (g, w, s, q, a.giants_are, v) in omega (arith, e, h)
+
+      pub turned_pairs : {nodes' log' : List ℕ} → PairsJoined t made nodes nodes' log log' logged → NodesTurned strategy made slots ks nodes nodes' log log' logged
+      turned_pairs j = record { turned = j.joined_all ∙ cc (s, switches); logs = j.logs ∙ rw (← map_tabulate rotation_of made (join_at t), switches) }
+        where
+          switches : tabulate made (join_at t) ≡ take made (giant_schedule slots strategy ks)
+          switches = let e : join_at t ≡ join_by (plan_giants slots strategy ks) (width_of strategy) slots p.bits = cc (g, w, s, q, a.giants_are, v) in ap (tabulate made) e ∙ (Pairs.pairs_by slots strategy ks some b a.range a.width a.distinct made a.few)

@@ -1,10 +1,8 @@
 -- A pair of the tree: the leaves of the giants, the search for a node's place, and the switch.
 -- Assumes nothing.
-use Rattle.std.proofs.Common.{◌≡◌, ℕ, zero, suc, ◌+◌, ◌-◌, ◌*◌, ◌/◌, ◌%◌, ◌^◌, ◌<◌, ◌≤◌, true, false, not, eqb, List, length, get_or, ℤ, pos, sym, refl, ap, ◌∙◌, subst, ⊎_elim, true≢false, mod-eq_of_lt, div-lt_iff_lt-mul, le-div_iff_mul-le, div-le_self, div-mul-le_self, arith, pow_pos, w64, to_z, of_z, le-ltb, eq-eqb, ne_eqb}
+use Rattle.std.proofs.Common.{◌≡◌, ℕ, zero, suc, ◌+◌, ◌-◌, ◌*◌, ◌/◌, ◌%◌, ◌^◌, ◌<◌, ◌≤◌, true, false, not, eqb, List, length, get_or, pos, sym, refl, ap, ◌∙◌, ⊎_elim, true≢false, mod-eq_of_lt, div-lt_iff_lt-mul, le-div_iff_mul-le, div-le_self, div-mul-le_self, arith, pow_pos, pow_mono, eq-eqb, ne_eqb}
 use native.Mathlib.Decide.{dec_lt, ℕ_discrete}
-use borrow.Author.Tests.{lt-leb}
 use lib.ListN.{length-map}
-use mir.ValLaws.{to_z_pos, to_z-of_z}
 use Rattle.ring.specs.Slots.{modulus}
 use Rattle.ring.specs.Residues.{residue_of}
 use Rattle.ring.specs.Laws.Lists.{each_at}
@@ -12,16 +10,11 @@ use Rattle.ring.specs.Laws.Refusals.{not_outside}
 use Rattle.ring.specs.Laws.Residues.{residue_pos, residue_lt}
 use Rattle.ring.specs.Laws.Searches.{lt_or_ge}
 use Rattle.ring.specs.Answers.{answered}
-use Rattle.ring.specs.declared.Answer.{Answer}
-use Rattle.ring.specs.declared.Answer.TheVariants as Got
-use Rattle.ring.specs.Laws.Answers.{no_refused, same_value}
-use Rattle.ring.specs.Laws.Rotations.{length_rotated}
-use Rattle.linear_transformation.specs.declared.digits.DigitAnswer.{DigitAnswer}
-use Rattle.linear_transformation.specs.declared.digits.DigitAnswer.TheVariants.{Refused, Is}
-use Rattle.linear_transformation.specs.declared.digits.Digit.{Digit}
-use Rattle.linear_transformation.specs.Digits.{digit, rot_of, Giant, level_rotation}
-use Rattle.linear_transformation.specs.Calls.{digit_refusal, digit_answered, level_refusal}
-use Rattle.linear_transformation.specs.Laws.Bits.{digit_small}
+use Rattle.ring.specs.declared.refusal.Refusal.{Refusal}
+use Rattle.ring.specs.Laws.Answers.{when_ok}
+use Rattle.std.specs.Prelude.{Option, None, Result, Ok}
+use Rattle.linear_transformation.specs.Digits.{digit, level_rotation}
+use Rattle.linear_transformation.specs.Calls.{digit_refusal, level_refusal}
 use Rattle.runs.specs.Switches.{node_place}
 use Rattle.runs.specs.Machines.{put_vector, turned, summed, vector_at}
 use Rattle.runs.specs.Laws.Places.{inside_first, length_put_vector}
@@ -31,140 +24,112 @@ use Rattle.runs.specs.Laws.Turnings.{length_summed}
 use Rattle.runs.specs.Laws.Elements.{mapped_at}
 use Rattle.runs.specs.Steps.Keyed.{TurnAsked, AddTurn}
 use Rattle.runs.proofs.TwoRuns.{apart}
-use Rattle.runs.specs.Steps.Giants.{leaf_by, leaves_by, LeafAsked, NodeAsked, node_at, starts_pair, has_even, PlaceAsked, TurnOfAsked, PairAsked, PairJoined}
+use Rattle.runs.specs.declared.tree.Tree.{Tree}
+use Rattle.runs.specs.Steps.Leaves.{leaf_by}
+use Rattle.runs.specs.Steps.Giants.{leaf_or_none, leaves_of, NodeAsked, node_at, starts_pair, has_even, PlaceAsked, PairAsked, PairJoined}
+use Rattle.ring.specs.Laws.Refusals.{on_accept_accepted}
+use Rattle.std.specs.List.Sorted.{IsPartitionPoint, IsNonDecreasingBy}
+use Rattle.std.proofs.lemmas.Bool.{ltb-true}
+use Rattle.std.proofs.lemmas.List.{get_or_default}
+use Rattle.std.proofs.Common.{ltb, ltb-false}
+use Rattle.std.specs.Prelude.{slice_index_or}
 
 -- ---- leaves
 
-IsRefused : DigitAnswer → Type 0
-IsRefused (Refused e) = Unit {0}
-IsRefused (Is d) = ⊥
+module _ (t : Tree) where
+  some_slots : 1 ≤ t.slots
+  some_slots = t.slots_range.low
 
-digit_of : DigitAnswer → Digit
-digit_of (Refused e) = record { 0 = pos 0 }
-digit_of (Is d) = d
+  -- a number that is accepted as a giant rotation
+  module _ (g : ℕ) where
+    abbrev refusal : Option Refusal
+    refusal = digit_refusal t.slots t.width (pos g)
 
-module _ {g width slots size : ℕ} (a : LeafAsked g width slots size) where
-  low : g < 65536
-  low = omega (arith, a.is.reduced, a.slots_in_fact.high)
+  -- a giant of the plan
+  own_leaf : (g : ℕ) → (g < t.slots) × (g % t.width ≡ 0) → leaf_or_none t g ≡ leaf_by t.slots t.width (2 ^ t.bits) g
+  own_leaf g is =
+      let own : residue_of (pos g) t.slots ≡ g = residue_pos g t.slots some_slots ∙ mod-eq_of_lt is.0 in
+      let none : refusal g ≡ None = rw (not_outside t.slots some_slots t.slots_range.high, not_outside t.width t.width_range.low t.width_range.high, own, eq-eqb (g % t.width) 0 is.1) in
+      on_accept_accepted (refusal g) _ _ none ∙ rw own
 
-  residue_own : residue_of (to_z w64 g) slots ≡ g
-  residue_own = ap (λ (z : ℤ). residue_of z slots) (to_z_pos w64 g (omega (arith, low))) ∙ residue_pos g slots a.slots_in_fact.low ∙ mod-eq_of_lt a.is.reduced
+  leaves_many : length (leaves_of t) ≡ length t.giants.now
+  leaves_many = length-map t.giants.now (leaf_by t.slots t.width (2 ^ t.bits))
 
-  -- the giant is accepted, and its digit is given
-  pub digit_is : digit_answered (digit_refusal slots width (to_z w64 g)) (digit slots width (rot_of slots (to_z w64 g))) ≡ Is (digit slots width (record { 0 = g }))
-  digit_is = rw (not_outside slots a.slots_in_fact.low a.slots_in_fact.high, not_outside width a.width_in.low a.width_in.high, residue_own, eq-eqb (g % width) 0 a.is.multiple)
+  leaf_there : (place : ℕ) → place < length t.giants.now → leaf_or_none t (get_or t.giants.now place 0) ≡ get_or (leaves_of t) place 0
+  leaf_there place l =
+      own_leaf (get_or t.giants.now place 0) (each_at (λ g. (g < t.slots) × (g % t.width ≡ 0)) t.giants.now 0 t.giants_each place l)
+      ∙ sym (mapped_at (leaf_by t.slots t.width (2 ^ t.bits)) t.giants.now place 0 0 l)
 
-  pub digit_refused : {e : ℕ} {r : DigitAnswer} → r ≡ digit_answered (digit_refusal slots width (to_z w64 g)) (digit slots width (rot_of slots (to_z w64 g))) → r ≡ Refused e → ⊥
-  unfolding IsRefused
-  digit_refused p q = subst IsRefused (sym q ∙ p ∙ digit_is) tt
+  leaf_low : (place : ℕ) → place < length t.giants.now → get_or (leaves_of t) place 0 < 65536
+  leaf_low place l =
+      rw (mapped_at (leaf_by t.slots t.width (2 ^ t.bits)) t.giants.now place 0 0 l)
+      (omega (arith, residue_lt (digit t.slots t.width (record { 0 = get_or t.giants.now place 0 })).0 (2 ^ t.bits) (pow_pos t.bits), pow_mono {i = t.bits} {j = 16} t.bits_low))
 
-  pub leaf_is : {d : Digit} {r : DigitAnswer} {l : ℕ} → r ≡ digit_answered (digit_refusal slots width (to_z w64 g)) (digit slots width (rot_of slots (to_z w64 g))) → r ≡ Is d → l ≡ residue_of (to_z w64 (of_z w64 d.0)) size → l ≡ leaf_by slots width size g
-  unfolding digit_of
-  leaf_is {d} p q s =
-      let e : d ≡ digit slots width (record { 0 = g }) = ap digit_of (sym q ∙ p ∙ digit_is) in
-      let small = digit_small slots width a.width_in.low a.slots_in_fact.high (record { 0 = g }) a.is in
-      s ∙ ap (λ (z : ℤ). residue_of z size) (to_z-of_z w64 d.0 (rw e (omega (arith, small)))) ∙ rw e
+  -- they do not fall
+  pub leaves_order : IsNonDecreasingBy (λ g. suc (leaf_or_none t g)) t.giants.now
+  leaves_order i j d l m = by (ℕ_discrete i j)
+    where
+      word : (i : ℕ) → i < length t.giants.now → suc (leaf_or_none t (slice_index_or t.giants.now i d)) ≡ suc (get_or (leaves_of t) i 0)
+      word i h = ap suc (ap (leaf_or_none t) (get_or_default t.giants.now i d 0 h) ∙ leaf_there i h)
+
+      by : Dec (i ≡ j) → suc (leaf_or_none t (slice_index_or t.giants.now i d)) ≤ suc (leaf_or_none t (slice_index_or t.giants.now j d))
+      by (yes e) = rw e (omega arith)
+      by (no n) = rw (word i (omega arith), word j m) (omega (arith, rising_at (leaves_of t) 0 t.leaves_rise i j (omega arith) (omega (arith, leaves_many))))
 
 -- ---- the place of a node
 
--- it is from low on, and at most high
-pub record Locating (place count low high : ℕ) : Type 0 where
-  pub from : low ≤ place
-  pub to : place ≤ high
-  pub inside : high ≤ count
-
-module _ {gs : List ℕ} {width slots size level node : ℕ} (a : NodeAsked gs width slots size level node) where
-  abbrev leaves : List ℕ
-  leaves = leaves_by slots width size gs
-
+module _ {t : Tree} {level node : ℕ} (a : NodeAsked t level node) where
   abbrev place : ℕ
-  place = node_place leaves level node
+  place = node_place (leaves_of t) level node
 
-  first : NodeFirst leaves level node place
-  first = node_first leaves a.leafy.rises level node a.there_is
-
-  leaves_length : length leaves ≡ length gs
-  leaves_length = length-map gs (leaf_by slots width size)
-
-  pub locating_all : Locating place (length gs) 0 (length gs)
-  locating_all = record { from = omega arith; to = omega (arith, first.inside, leaves_length); inside = omega arith }
+  first : NodeFirst (leaves_of t) level node place
+  first = node_first (leaves_of t) t.leaves_rise level node a.there_is
 
   -- the leaf at the place is not below the first under the node
-  under : node * 2 ^ level ≤ get_or leaves place 0
+  under : node * 2 ^ level ≤ get_or (leaves_of t) place 0
   under = (le-div_iff_mul-le (pow_pos level)).0 (omega (arith, first.under))
 
-  pub asked_leaf : {low high : ℕ} → Locating place (length gs) low high → (mid : ℕ) → mid < high → LeafAsked (get_or gs mid 0) width slots size
-  asked_leaf v mid h = record { slots_in_fact = a.leafy.slots_in_fact; width_in = a.leafy.width_in; is = each_at (λ g. Giant slots width (record { 0 = g })) gs 0 a.leafy.each mid (omega (arith, v.inside)) }
+  -- where the leaves below the first under the node end
+  pub point_is_place : {x r : ℕ} → x ≡ node * 2 ^ level → IsPartitionPoint (λ g. ltb (leaf_or_none t g) x ≡ true) (λ g. ltb (leaf_or_none t g) x ≡ false) t.giants.now r → r ≡ place
+  point_is_place {x} {r} e p = by (dec_lt r place) (ℕ_discrete r place)
+    where
+      inside : place < length t.giants.now
+      inside = omega (arith, first.inside, leaves_many t)
 
-  module _ {low high : ℕ} (v : Locating place (length gs) low high) (mid : ℕ) (h : mid < high) {l : ℕ} (e : l ≡ leaf_by slots width size (get_or gs mid 0)) where
-    leaf_at : get_or leaves mid 0 ≡ l
-    leaf_at = mapped_at (leaf_by slots width size) gs mid 0 0 (omega (arith, v.inside)) ∙ sym e
-
-    pub locating_up : {x : ℕ} → l < x → x ≡ node * 2 ^ level → Locating place (length gs) (mid + 1) high
-    locating_up {x} k z = record { from = by (dec_lt mid place); to = v.to; inside = v.inside }
-      where
-        by : Dec (mid < place) → mid + 1 ≤ place
-        by (yes q) = omega arith
-        by (no q) = absurd (later (ℕ_discrete place mid))
-          where
-            later : Dec (place ≡ mid) → ⊥
-            later (yes w) = omega (arith, under, leaf_at, ap (λ (x : ℕ). get_or leaves x 0) w)
-            later (no w) = omega (arith, under, leaf_at, rising_at leaves 0 a.leafy.rises place mid (omega arith) (omega (arith, leaves_length, v.inside)))
-
-    pub locating_down : {x : ℕ} → x ≤ l → x ≡ node * 2 ^ level → Locating place (length gs) low mid
-    locating_down {x} k z = record { from = v.from; to = by (dec_lt mid place); inside = omega (arith, v.inside) }
-      where
-        by : Dec (mid < place) → place ≤ mid
-        by (yes q) = absurd (omega (arith, leaf_at, (div-lt_iff_lt-mul (pow_pos level)).0 (first.before mid q)))
-        by (no q) = omega arith
-
-  pub locating_done : {low high : ℕ} → Locating place (length gs) low high → high ≤ low → low ≡ place
-  locating_done v h = omega (arith, v.from, v.to)
+      by : Dec (r < place) → Dec (r ≡ place) → r ≡ place
+      by (yes q) d =
+          absurd (omega (arith, e, (div-lt_iff_lt-mul (pow_pos level)).0 (first.before r q), leaf_there t r (omega (arith, inside)), ltb-false (leaf_or_none t (get_or t.giants.now r 0)) x (p.1 r 0 (omega arith) (omega (arith, inside)))))
+      by (no q) (yes d) = d
+      by (no q) (no d) = absurd (omega (arith, e, under, leaf_there t place inside, ltb-true (leaf_or_none t (get_or t.giants.now place 0)) x (p.0 place 0 (omega arith) (omega arith))))
 
 -- ---- a place of a level
 
-module _ {gs : List ℕ} {width slots size level place : ℕ} (a : PlaceAsked gs width slots size level place) where
-  abbrev leaves_of : List ℕ
-  leaves_of = leaves_by slots width size gs
+module _ {t : Tree} {level place : ℕ} (a : PlaceAsked t level place) where
+  pub node_is : {l : ℕ} → l ≡ leaf_or_none t (get_or t.giants.now place 0) → l / 2 ^ level ≡ node_at (leaves_of t) level place
+  node_is e = ap (λ (x : ℕ). x / 2 ^ level) (e ∙ leaf_there t place a.inside)
 
-  leaves_many : length leaves_of ≡ length gs
-  leaves_many = length-map gs (leaf_by slots width size)
+  pub node_small : node_at (leaves_of t) level place < 65536
+  node_small = omega (arith, leaf_low t place a.inside, div-le_self (get_or (leaves_of t) place 0) (2 ^ level))
 
-  pub place_leaf : LeafAsked (get_or gs place 0) width slots size
-  place_leaf = record { slots_in_fact = a.leafy.slots_in_fact; width_in = a.leafy.width_in; is = each_at (λ g. Giant slots width (record { 0 = g })) gs 0 a.leafy.each place a.inside }
-
-  leaf_there : get_or leaves_of place 0 ≡ leaf_by slots width size (get_or gs place 0)
-  leaf_there = mapped_at (leaf_by slots width size) gs place 0 0 a.inside
-
-  leaf_low : get_or leaves_of place 0 < 65536
-  leaf_low = rw leaf_there (omega (arith, residue_lt (digit slots width (record { 0 = get_or gs place 0 })).0 size a.some, a.small))
-
-  pub node_is : {l : ℕ} → l ≡ leaf_by slots width size (get_or gs place 0) → l / 2 ^ level ≡ node_at leaves_of level place
-  node_is e = ap (λ (x : ℕ). x / 2 ^ level) (e ∙ sym leaf_there)
-
-  pub node_small : node_at leaves_of level place < 65536
-  node_small = omega (arith, leaf_low, div-le_self (get_or leaves_of place 0) (2 ^ level))
-
-  pub before_asked : PlaceAsked gs width slots size level (place - 1)
-  before_asked = record { leafy = a.leafy; inside = omega (arith, a.inside); some = a.some; small = a.small; low = a.low }
+  pub before_asked : PlaceAsked t level (place - 1)
+  before_asked = record { inside = omega (arith, a.inside); low = a.low }
 
   -- the node above it is searched for, and stands there or before
-  pub node_asked : {n : ℕ} → n ≡ node_at leaves_of level place → NodeAsked gs width slots size level n
+  pub node_asked : {n : ℕ} → n ≡ node_at (leaves_of t) level place → NodeAsked t level n
   node_asked e =
       rw e
       (record {
-        leafy = a.leafy;
-        there_is = there_at leaves_of level place (omega (arith, a.inside, leaves_many));
-        small = omega (arith, leaf_low, div-mul-le_self (get_or leaves_of place 0) (2 ^ level));
+        there_is = there_at (leaves_of t) level place (omega (arith, a.inside, leaves_many t));
+        small = omega (arith, leaf_low t place a.inside, div-mul-le_self (get_or (leaves_of t) place 0) (2 ^ level));
         low = a.low;
       })
 
-  pub node_up_to : node_place leaves_of level (node_at leaves_of level place) ≤ place
+  pub node_up_to : node_place (leaves_of t) level (node_at (leaves_of t) level place) ≤ place
   node_up_to =
-      let f = node_first leaves_of a.leafy.rises level (node_at leaves_of level place) (there_at leaves_of level place (omega (arith, a.inside, leaves_many))) in
-      ⊎_elim (λ (m : place < node_place leaves_of level (node_at leaves_of level place)). absurd (omega (arith, f.before place m)))
-      (λ (m : node_place leaves_of level (node_at leaves_of level place) ≤ place). m)
-      (lt_or_ge place (node_place leaves_of level (node_at leaves_of level place)))
+      let f = node_first (leaves_of t) t.leaves_rise level (node_at (leaves_of t) level place) (there_at (leaves_of t) level place (omega (arith, a.inside, leaves_many t))) in
+      ⊎_elim (λ (m : place < node_place (leaves_of t) level (node_at (leaves_of t) level place)). absurd (omega (arith, f.before place m)))
+      (λ (m : node_place (leaves_of t) level (node_at (leaves_of t) level place) ≤ place). m)
+      (lt_or_ge place (node_place (leaves_of t) level (node_at (leaves_of t) level place)))
 
 -- whether a pair starts there
 module _ (leaves : List ℕ) (level : ℕ) where
@@ -205,65 +170,48 @@ turn_under : (slots width bits level : ℕ) → 0 < slots → (level_rotation sl
 unfolding level_rotation
 turn_under slots width bits level p = residue_lt _ slots p
 
-module _ {bits level width slots : ℕ} (a : TurnOfAsked bits level width slots) {r : Answer} (e : r ≡ answered (level_refusal slots width bits level) (level_rotation slots width bits level).0) where
-  turn_given : r ≡ Got.Is (level_rotation slots width bits level).0
-  turn_given = e ∙ rw (not_outside slots a.slots_in_fact.low a.slots_in_fact.high, not_outside width a.width_in.low a.width_in.high, le-ltb 16 bits a.small, lt-leb bits level a.low)
+module _ (t : Tree) {level : ℕ} (l : level < t.bits) {r : Result ℕ Refusal} (e : r ≡ answered (level_refusal t.slots t.width t.bits level) (level_rotation t.slots t.width t.bits level).0) where
+  pub turn_is : {k : ℕ} → r ≡ Ok k → k ≡ (level_rotation t.slots t.width t.bits level).0
+  turn_is {k} h = (when_ok _ _ k (sym h ∙ e)).1
 
-  pub turn_is : {k : ℕ} → r ≡ Got.Is k → k ≡ (level_rotation slots width bits level).0
-  turn_is h = same_value (sym h ∙ turn_given)
-
-  pub turn_small : {k : ℕ} → r ≡ Got.Is k → k < 65536
-  turn_small h = omega (arith, turn_is h, turn_under slots width bits level a.slots_in_fact.low, a.slots_in_fact.high)
-
-  pub turn_refused : {x : ℕ} → r ≡ Got.Refused x → ⊥
-  turn_refused h = no_refused (sym h ∙ turn_given)
+  pub turn_small : {k : ℕ} → r ≡ Ok k → k < 65536
+  turn_small h = omega (arith, turn_is h, turn_under t.slots t.width t.bits level t.slots_range.low, t.slots_range.high)
 
 -- ---- the switch of a pair
 
-module _ {gs : List ℕ} {width slots size bits level place n : ℕ} (a : PairAsked gs width slots size bits level place n) where
-  abbrev turn : ℕ
-  turn = (level_rotation slots width bits level).0
+module _ {t : Tree} {level place n : ℕ} (a : PairAsked t level place n) where
+  pub placed : PlaceAsked t level place
+  placed = record { inside = a.inside; low = omega (arith, a.low, t.bits_low) }
 
-  pub turn_asked : TurnOfAsked bits level width slots
-  turn_asked = record { slots_in_fact = a.placed.leafy.slots_in_fact; width_in = a.placed.leafy.width_in; small = a.small; low = a.low }
+  pub even_asked : {o : ℕ} → o ≡ node_at (leaves_of t) level (place - 1) → NodeAsked t level o
+  even_asked e = node_asked (before_asked placed) e
 
-  pub even_asked : {o : ℕ} → o ≡ node_at (leaves_by slots width size gs) level (place - 1) → NodeAsked gs width slots size level o
-  even_asked e = node_asked (before_asked a.placed) e
+  module _ (nodes : List ℕ) (len : length nodes ≡ n) {r : ℕ} (q : r ≡ (level_rotation t.slots t.width t.bits level).0) where
+    odd_room : place * t.slots + t.slots ≤ length nodes
+    odd_room = (inside_first t.slots nodes (length t.giants.now) place (omega (arith, a.room)) a.inside).room
 
-  module _ (nodes : List ℕ) (len : length nodes ≡ n) {k r : ℕ} (t : r ≡ (level_rotation slots width bits level).0) (u : k ≡ r) where
-    odd_room : place * slots + slots ≤ length nodes
-    odd_room = (inside_first slots nodes (length gs) place (omega (arith, a.room)) a.placed.inside).room
-
-    turn_low : k < slots
-    turn_low = rw (u ∙ t) (turn_under slots width bits level a.placed.leafy.slots_in_fact.low)
+    turn_low : r < t.slots
+    turn_low = rw q (turn_under t.slots t.width t.bits level t.slots_range.low)
 
     -- with no even
-    pub alone_asked : TurnAsked slots nodes place k
+    pub alone_asked : TurnAsked t.slots nodes place r
     alone_asked = record { low = turn_low; room = odd_room }
 
-    pub alone : has_even (leaves_by slots width size gs) level place ≡ false → {new : List ℕ} → new ≡ put_vector slots nodes place (turned slots (vector_at slots nodes place) k) → PairJoined gs width slots size bits level place nodes new r
-    alone h w =
-        record {
-          nodes = w ∙ rw (h, u ∙ t);
-          turn = t;
-          len = ap length w ∙ length_put_vector slots (turned slots (vector_at slots nodes place) k) (length_rotated _ _ slots) (record { room = odd_room });
-        }
-
     -- with an even
-    module _ (h : has_even (leaves_by slots width size gs) level place ≡ true) {o s : ℕ} (e : o ≡ node_at (leaves_by slots width size gs) level (place - 1)) (i : s ≡ node_place (leaves_by slots width size gs) level o) where
-      even_place_lem : s ≡ node_place (leaves_by slots width size gs) level (node_at (leaves_by slots width size gs) level (place - 1))
-      even_place_lem = i ∙ ap (node_place (leaves_by slots width size gs) level) e
+    module _ (h : has_even (leaves_of t) level place ≡ true) {o s : ℕ} (e : o ≡ node_at (leaves_of t) level (place - 1)) (i : s ≡ node_place (leaves_of t) level o) where
+      even_place_lem : s ≡ node_place (leaves_of t) level (node_at (leaves_of t) level (place - 1))
+      even_place_lem = i ∙ ap (node_place (leaves_of t) level) e
 
       before : s < place
-      before = omega (arith, even_place_lem, node_up_to (before_asked a.placed), even_some (leaves_by slots width size gs) level place h)
+      before = omega (arith, even_place_lem, node_up_to (before_asked placed), even_some (leaves_of t) level place h)
 
-      pub both_asked : AddTurn slots nodes s place k
+      pub both_asked : AddTurn t.slots nodes s place r
       both_asked = record { low = turn_low; order = before; room = odd_room }
 
-      pub both : {new : List ℕ} → new ≡ put_vector slots nodes s (summed modulus slots (vector_at slots nodes s) (turned slots (vector_at slots nodes place) k)) → PairJoined gs width slots size bits level place nodes new r
+      pub both : {new : List ℕ} → new ≡ put_vector t.slots nodes s (summed modulus t.slots (vector_at t.slots nodes s) (turned t.slots (vector_at t.slots nodes place) r)) → PairJoined t level place nodes new r
       both w =
           record {
-            nodes = w ∙ rw (h, even_place_lem, u ∙ t);
-            turn = t;
-            len = ap length w ∙ length_put_vector slots (summed modulus slots (vector_at slots nodes s) (turned slots (vector_at slots nodes place) k)) (length_summed modulus slots _ _) (record { room = omega (arith, odd_room, apart slots s place before) });
+            nodes = w ∙ rw (h, even_place_lem, q);
+            turn = q;
+            len = ap length w ∙ length_put_vector t.slots (summed modulus t.slots (vector_at t.slots nodes s) (turned t.slots (vector_at t.slots nodes place) r)) (length_summed modulus t.slots _ _) (record { room = omega (arith, odd_room, apart t.slots s place before) });
           }

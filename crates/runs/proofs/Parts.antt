@@ -1,20 +1,21 @@
--- What `multiply_add_into` leaves, and the two parts of a diagonal: up to the input's end and from its start on.
+-- The two parts of a diagonal: up to the input's end and from its start on.
 -- Assumes nothing.
-use Rattle.std.proofs.Common.{◌≡◌, ℕ, ◌+◌, ◌-◌, ◌%◌, ◌<◌, ◌≤◌, List, ◌++◌, length, get_or, take, drop, sym, ap, ◌∙◌, mod-lt, mod-eq_of_lt, add_comm, zero-add, arith, length-drop, length-take, length-take-le, get_or-drop, get_or-take, eq-eqb}
+use Rattle.std.specs.Prelude.{replicate}
+use Rattle.std.proofs.Common.{◌≡◌, ℕ, zero, suc, refl, ◌∷◌, ◌+◌, ◌-◌, ◌%◌, ◌<◌, ◌≤◌, List, ◌++◌, length, get_or, take, drop, sym, ap, ◌∙◌, mod-eq_of_lt, add_comm, zero-add, arith, length-drop, length-take, length-take-le, get_or-drop, get_or-take}
 use native.Mathlib.Nat.{mod-add-mod, add-mod_left}
 use Rattle.ring.specs.Slots.{modulus, addm, mulm}
 use Rattle.ring.specs.Vectors.{tabulate, filled, Filling}
-use Rattle.ring.specs.Calls.{product_added, MultiplyAdd}
 use Rattle.ring.specs.Laws.Vectors.{tabulate_cong, length_filled, filling_block, filling_rest, filling_done}
-use Rattle.ring.specs.Laws.Refusals.{on_accept_accepted}
 use Rattle.diagonals.specs.Products.{cell}
-use Rattle.runs.specs.Steps.Plain.{Around, around_added, diagonal_added, Repeated}
+use Rattle.runs.specs.Steps.Plain.{around_added, diagonal_added, Repeated}
 
--- three of one length are accepted
-pub accepted : {a b old new : List ℕ} {r : ℕ} (n : ℕ) → MultiplyAdd a b old new r → length a ≡ n → length b ≡ n → length old ≡ n → new ≡ tabulate n (product_added a b old)
-accepted {a} {b} {old} {new} {r} n m ea eb eo =
-    let e : r ≡ 0 = m.answer ∙ rw (eq-eqb (length a) (length old) (ea ∙ sym eo), eq-eqb (length b) (length old) (eb ∙ sym eo)) in
-    m.out ∙ on_accept_accepted r _ _ e ∙ ap (λ (x : ℕ). tabulate x (product_added a b old)) eo
+-- a buffer that is cleared
+pub cleared : (n : ℕ) {xs : List ℕ} → xs ≡ replicate {A = ℕ} n 0 → xs ≡ tabulate n (λ i. 0)
+cleared n e = e ∙ zeros n
+  where
+    zeros : (n : ℕ) → replicate {A = ℕ} n 0 ≡ tabulate n (λ i. 0)
+    zeros zero = refl
+    zeros (suc n) = ap (λ (t : List ℕ). 0 ∷ t) (zeros n)
 
 -- the first k words of a buffer, written through `&mut d[..k]`
 pub filling_first : {A : Type 0} (f : ℕ → A) (d₀ : List A) (k : ℕ) (ys : List A) → k ≤ length d₀ → ys ≡ tabulate k f → Filling f d₀ (ys ++ drop k d₀) k
@@ -35,9 +36,6 @@ module _ {period input out : List ℕ} {k : ℕ} (w : Repeated period k input ou
 
   abbrev word : ℕ → ℕ
   word = diagonal_added period k input out
-
-  pub front_asked : Around period 0 later (take head out)
-  front_asked = record { low = w.some; same = simp (length-take, length-drop) (omega (arith, w.low, w.whole)) }
 
   -- up to the input's end
   front : {ys : List ℕ} → ys ≡ tabulate (length (take head out)) (around_added period 0 later (take head out)) → ys ≡ tabulate head word
@@ -60,9 +58,6 @@ module _ {period input out : List ℕ} {k : ℕ} (w : Repeated period k input ou
     rest_length : length rest ≡ k
     rest_length = simp (length-take, length-drop) (omega (arith, f.len, w.low))
 
-    rest_asked : Around period (head % length period) (take k input) rest
-    rest_asked = record { low = mod-lt head w.some; same = length-take-le k input (omega (arith, w.low, w.whole)) ∙ sym rest_length }
-
     -- from the input's start on
     back : {zs : List ℕ} → zs ≡ tabulate (length rest) (around_added period (head % length period) (take k input) rest) → zs ≡ tabulate (length d - head) (λ i. word (head + i))
     back e =
@@ -81,9 +76,6 @@ module _ {period input out : List ℕ} {k : ℕ} (w : Repeated period k input ou
   module _ {ys : List ℕ} (m : ys ≡ tabulate (length (take head out)) (around_added period 0 later (take head out))) where
     filling : Filling word out (ys ++ drop head out) head
     filling = filling_first word out head ys (omega arith) (front m)
-
-    pub back_asked : Around period (head % length period) (take k input) (take (length (ys ++ drop head out) - head) (drop head (ys ++ drop head out)))
-    back_asked = rest_asked filling
 
     pub both : {zs : List ℕ} → zs ≡ tabulate (length (take (length (ys ++ drop head out) - head) (drop head (ys ++ drop head out)))) (around_added period (head % length period) (take k input) (take (length (ys ++ drop head out) - head) (drop head (ys ++ drop head out))))
         → take head (ys ++ drop head out) ++ (zs ++ drop (length (ys ++ drop head out) - head) (drop head (ys ++ drop head out))) ≡ tabulate (length out) word

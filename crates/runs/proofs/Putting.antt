@@ -1,9 +1,9 @@
 -- A loop that puts words one after the other over a part of a buffer: what it keeps, and a turn.
 -- Assumes nothing.
-use Rattle.std.proofs.Common.{◌≡◌, ℕ, ◌+◌, ◌<◌, ◌≤◌, List, [], ◌∷◌, ◌++◌, length, get_or, set, sym, refl, ap, ◌∙◌, arith}
+use Rattle.std.proofs.Common.{◌≡◌, ℕ, ◌+◌, ◌<◌, ◌≤◌, List, [], ◌∷◌, ◌++◌, length, set, sym, refl, ap, ◌∙◌, arith}
 use Rattle.ring.specs.Vectors.{tabulate, put_at}
 use Rattle.ring.specs.Laws.Vectors.{length_tabulate, tabulate_more}
-use Rattle.ring.specs.Laws.Places.{length_put_at, put_at_before, put_at_behind, put_both, put_none, put_one}
+use Rattle.ring.specs.Laws.Places.{length_put_at, put_both, put_none, put_one}
 
 -- the j words f 0 .. f (j - 1) stand from place `at` on
 pub record Putting (f : ℕ → ℕ) (at : ℕ) (old new : List ℕ) (j : ℕ) : Type 0 where
@@ -25,13 +25,3 @@ module _ {f : ℕ → ℕ} {at : ℕ} {old new : List ℕ} {j : ℕ} (p : Puttin
 
       more : set new (at + j) v ≡ put_at at (tabulate (j + 1) f) old
       more = rw p.so_far (word ∙ rw (e) (ap (λ (t : List ℕ). put_at at t old) (sym (tabulate_more j f))))
-
-  -- words before it, and those that are not put yet, are as they were
-  pub putting_before : (i : ℕ) → i < at → get_or new i 0 ≡ get_or old i 0
-  putting_before i l = rw p.so_far (put_at_before at (tabulate j f) old (rw length_tabulate p.room) i 0 l)
-
-  pub putting_behind : (i : ℕ) → j ≤ i → get_or new (at + i) 0 ≡ get_or old (at + i) 0
-  putting_behind i l = rw p.so_far (put_at_behind at (tabulate j f) old (rw length_tabulate p.room) i 0 (rw length_tabulate l))
-
-  pub putting_done : (n : ℕ) → j ≡ n → new ≡ put_at at (tabulate n f) old
-  putting_done n e = rw (← e) p.so_far

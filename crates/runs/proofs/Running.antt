@@ -11,11 +11,12 @@ use Rattle.linear_transformation.specs.declared.LinearTransformationStrategy.{Li
 use Rattle.linear_transformation.specs.Plans.{Distinct, Planned, width_of, plan_pairs}
 use Rattle.linear_transformation.specs.Closures.{nonzeros}
 use Rattle.linear_transformation.specs.Schedules.{plan_babies, plan_giants, plan_words, plan_switches}
-use Rattle.linear_transformation.specs.Stored.{step_of, bits_for}
+use Rattle.std.specs.Prelude.{Option, None, Some}
+use Rattle.runs.specs.declared.surveying.Powers.{Powers}
 use Rattle.linear_transformation.specs.Laws.Plans.{width_positive, words_length}
 use Rattle.linear_transformation.specs.Laws.Runs.{planned_length, giants_few}
 use Rattle.diagonals.specs.Laws.Maps.{count_low}
-use Rattle.runs.specs.declared.keyed.Survey.{Survey}
+use Rattle.runs.specs.declared.surveying.Survey.{Survey}
 use Rattle.runs.specs.Switches.{rotation_of, baby_schedule, giant_schedule}
 use Rattle.runs.specs.Machines.{node_words, answer_of}
 use Rattle.runs.specs.Laws.Answers.{length_answer}
@@ -25,11 +26,12 @@ use Rattle.runs.specs.Laws.PassSchedules.{baby_count, giant_count}
 use Rattle.runs.specs.Laws.PlanWords.{babies_read, giants_read, pairs_read}
 use Rattle.runs.specs.Laws.Schedules.{plan_babies_front, plan_babies_rise, plan_babies_low}
 use Rattle.runs.specs.Steps.Nodes.{NodesAsked, NodesMade}
-use Rattle.runs.specs.Steps.Surveys.{takes, Taken, Sized}
-use Rattle.runs.specs.Steps.Runs.{AnswerAsked, answer_by, TurningAsked, NodesTurned, RunAsked, turned_nodes, GiantsLeft}
+use Rattle.runs.specs.Steps.Surveys.{powers_of, takes, Taken, Sized}
+use Rattle.runs.specs.Steps.Runs.{answer_by, TurningAsked, NodesTurned, RunAsked, turned_nodes, GiantsLeft}
 use Rattle.runs.proofs.FromNodes.{nodes_of, nodes_made}
 use Rattle.runs.proofs.FromGiants as Own
-use Rattle.runs.proofs.FromPairs as Powers
+use Rattle.runs.proofs.FromPairs as Pairs
+use Rattle.runs.proofs.NodeTurning.{no_powers, some_powers}
 
 -- ---- sizes
 
@@ -91,16 +93,12 @@ module _ {strategy : LinearTransformationStrategy} {survey : Survey} {offsets pa
   unfolding takes
   switches_are = ap (λ (s : Survey). s.switches) a.survey_is
 
-  pub step_is : survey.step ≡ step_of slots strategy ks
+  pub powers_are : survey.powers ≡ powers_of slots strategy ks
   unfolding takes
-  step_is = ap (λ (s : Survey). s.step) a.survey_is
+  powers_are = ap (λ (s : Survey). s.powers) a.survey_is
 
-  pub step_told : survey.step ≡ step_of slots strategy offsets
-  step_told = step_is ∙ rw a.offsets_are
-
-  pub bits_told : survey.bits ≡ bits_for slots strategy offsets
-  unfolding takes
-  bits_told = ap (λ (s : Survey). s.bits) a.survey_is ∙ rw a.offsets_are
+  pub powers_told : survey.powers ≡ powers_of slots strategy offsets
+  powers_told = powers_are ∙ rw a.offsets_are
 
   own_are : survey.babies - 1 ≡ length (nonzeros (plan_babies slots strategy ks))
   own_are = rw babies_are (cache_room slots range.low range.high strategy ks)
@@ -206,17 +204,14 @@ module _ {strategy : LinearTransformationStrategy} {survey : Survey} {offsets pa
           front : length (take slots out) ≡ slots
           front = length-take-le slots out a.out_room
 
-          pub answer_asked : AnswerAsked survey.giants nodes' (take slots out)
-          answer_asked = record { some = omega (arith, front, range.low); small = omega (arith, front, range.high); room = rw front (omega (arith, a.nodes_room, len, len')) }
+          answer_by_lem : (powers : Option Powers) (giants : ℕ) → powers ≡ powers_of slots strategy ks → giants ≡ length (plan_giants slots strategy ks) → answer_by powers giants nodes' slots ≡ answer_of modulus slots strategy ks nodes'
+          answer_by_lem None g q r = rw r (sym (Own.answer_own modulus slots strategy ks nodes' (no_powers slots strategy ks (sym q))))
+          answer_by_lem (Some p) zero q r = sym (Pairs.answer_none slots strategy ks (some_powers slots strategy ks p (sym q)).0 modulus nodes' (sym r))
+          answer_by_lem (Some p) (suc g) q r = sym (Pairs.answer_some slots strategy ks (some_powers slots strategy ks p (sym q)).0 a.taken.width distinct modulus nodes' (omega (arith, r)))
 
-          answer_by_lem : (step giants : ℕ) → step ≡ step_of slots strategy ks → giants ≡ length (plan_giants slots strategy ks) → answer_by step giants nodes' slots ≡ answer_of modulus slots strategy ks nodes'
-          answer_by_lem zero g q r = rw r (sym (Own.answer_own modulus slots strategy ks nodes' (sym q)))
-          answer_by_lem (suc c) zero q r = sym (Powers.answer_none slots strategy ks (omega (arith, q)) modulus nodes' (sym r))
-          answer_by_lem (suc c) (suc g) q r = sym (Powers.answer_some slots strategy ks (omega (arith, q)) a.taken.width distinct modulus nodes' (omega (arith, r)))
-
-          pub finished : survey.switches ≤ n → {ys : List ℕ} → ys ≡ answer_by survey.step survey.giants nodes' (length (take slots out)) → GiantsLeft strategy survey n pairs values input cache nodes nodes' log log' out (ys ++ drop slots out)
+          pub finished : survey.switches ≤ n → {ys : List ℕ} → ys ≡ answer_by survey.powers survey.giants nodes' (length (take slots out)) → GiantsLeft strategy survey n pairs values input cache nodes nodes' log log' out (ys ++ drop slots out)
           unfolding in_front
           finished l {ys} q =
-              let is : ys ≡ answer_of modulus slots strategy ks nodes' = q ∙ rw front (answer_by_lem survey.step survey.giants step_is giants_are) in
+              let is : ys ≡ answer_of modulus slots strategy ks nodes' = q ∙ rw front (answer_by_lem survey.powers survey.giants powers_are giants_are) in
               let many : length (answer_of modulus slots strategy ks nodes') ≡ slots = length_answer modulus slots strategy ks planned nodes' (omega (arith, roomy, len, len')) in
               record { nodes_are = turned_are; log_is = log_is; out_is = rw (le-ltb n survey.switches l, is, many) }

@@ -1,14 +1,17 @@
 -- Demand 3, sentence by sentence: what the keyed run's promise (`KeyedRun`) and the plain run's (`Evaluated`) come to. Each
 -- theorem takes what a call promises and nothing else of it; the longer proofs are in `Laws/KeyedRuns`.
 -- Assumes nothing.
-use Rattle.std.specs.Prelude.{◌≡◌, ℕ, zero, suc, ◌+◌, ◌<◌, ◌≤◌, min, Bool, true, false, not, List, [], ◌∷◌, ◌++◌, map, length, take, ◌==◌, nat_le, slice_index, refl}
+use Rattle.std.specs.Prelude.{◌≡◌, ℕ, ◌+◌, ◌<◌, ◌≤◌, min, Bool, true, false, not, List, [], ◌∷◌, ◌++◌, map, length, take, ◌==◌, nat_le, slice_index, Option, None, Some, Result, Ok, Err, refl}
 use Rattle.std.proofs.Math.Path.{sym, ap}
 use Rattle.std.proofs.Common.{◌∙◌, true≢false, arith, leb-true, le-leb}
 use Rattle.std.proofs.Math.Nat.{min-eq_right}
 use Rattle.ring.specs.Slots.{modulus}
 use Rattle.ring.specs.Lists.{Each, among}
 use Rattle.ring.specs.Vectors.{tabulate, in_front}
+use Rattle.ring.specs.declared.refusal.Refusal.{Refusal}
+use Rattle.ring.specs.declared.refusal.Refusal.TheVariants.{OutOfRange, Length, Key}
 use Rattle.ring.specs.Refusals.{first_refusal}
+use Rattle.ring.specs.Answers.{answered}
 use Rattle.diagonals.specs.Maps.{Diagonal, offsets_of, view}
 use Rattle.diagonals.specs.Products.{matrix, product, dot}
 use Rattle.diagonals.specs.Calls.{map_refusals, map_refusal}
@@ -17,31 +20,30 @@ use Rattle.linear_transformation.specs.declared.LinearTransformationStrategy.The
 use Rattle.linear_transformation.specs.Strategies.{width_outside}
 use Rattle.linear_transformation.specs.Schedules.{plan_tree, NoGaps}
 use Rattle.linear_transformation.specs.Stored.{plan_records}
-use Rattle.runs.specs.declared.keyed.KeyedAnswer.{KeyedAnswer}
-use Rattle.runs.specs.declared.keyed.KeyedAnswer.TheVariants.{Refused, Is}
+use Rattle.runs.specs.declared.keyed.Progress.{Progress}
 use Rattle.runs.specs.Calls.{Evaluated}
 use Rattle.runs.specs.Plans.{map_plan, map_keys, map_switches}
 use Rattle.runs.specs.Switches.{rotation_of, schedule}
 use Rattle.runs.specs.Machines.{State, machine}
-use Rattle.runs.specs.Keyed.{Lent, lent_state, keyed_refusal, keyed_answered, keyed_left, KeyedRun}
-use Rattle.runs.specs.Laws.KeyedRuns.{front_words, rotations_count, keys_made, answered_alike, map_few, product_slot, rotations_held, machine_min, run_taken, run_answer, run_left, run_logged, run_finished, run_plain, run_refused, run_missing, run_misses}
+use Rattle.runs.specs.Keyed.{Lent, lent_state, keyed_refusal, keyed_progress, keyed_left, KeyedRun}
+use Rattle.runs.specs.Laws.KeyedRuns.{front_words, rotations_count, keys_made, progress_alike, map_few, product_slot, rotations_held, machine_min, run_taken, run_answer, run_left, run_logged, run_finished, run_plain, run_refused, run_missing, run_misses}
 
 -- how many switches an answer says were made, and whether it says that they are all
-abbrev pub switches_of : KeyedAnswer → ℕ
-switches_of (Refused e) = 0
-switches_of (Is switches finished babies giants diagonals pairs) = switches
+abbrev pub switches_of : Result Progress Refusal → ℕ
+switches_of (Err e) = 0
+switches_of (Ok p) = p.switches
 
-abbrev pub finished_of : KeyedAnswer → Bool
-finished_of (Refused e) = false
-finished_of (Is switches finished babies giants diagonals pairs) = finished
+abbrev pub finished_of : Result Progress Refusal → Bool
+finished_of (Err e) = false
+finished_of (Ok p) = p.finished
 
-finished_answer : (slots : ℕ) (strategy : LinearTransformationStrategy) (ds : List Diagonal) (n e : ℕ) → finished_of (keyed_answered e slots strategy ds n) ≡ true → (e ≡ 0) × (map_switches slots strategy ds ≤ n)
-unfolding keyed_answered
-finished_answer slots strategy ds n zero f = (refl, leb-true _ n f)
-finished_answer slots strategy ds n (suc e) f = absurd (true≢false (sym f))
+finished_answer : (slots : ℕ) (strategy : LinearTransformationStrategy) (ds : List Diagonal) (n : ℕ) (e : Option Refusal) → finished_of (answered e (keyed_progress slots strategy ds n)) ≡ true → (e ≡ None) × (map_switches slots strategy ds ≤ n)
+unfolding keyed_progress
+finished_answer slots strategy ds n None f = (refl, leb-true _ n f)
+finished_answer slots strategy ds n (Some e) f = absurd (true≢false (sym f))
 
 -- a keyed run, of any arguments
-module _ {slots count : ℕ} {pairs values input : List ℕ} {strategy : LinearTransformationStrategy} {held : List ℕ} {n : ℕ} {old new : Lent} {r : KeyedAnswer} (k : KeyedRun slots count pairs values input strategy held n old new r) where
+module _ {slots count : ℕ} {pairs values input : List ℕ} {strategy : LinearTransformationStrategy} {held : List ℕ} {n : ℕ} {old new : Lent} {r : Result Progress Refusal} (k : KeyedRun slots count pairs values input strategy held n old new r) where
   -- its map, its plan's keys and number of switches, and the machine after so many of them
   abbrev pub map_of : List Diagonal
   map_of = view count pairs values
@@ -61,10 +63,10 @@ module _ {slots count : ℕ} {pairs values input : List ℕ} {strategy : LinearT
 
   -- no refusal applies; none before that of the keys
   abbrev pub Accepted : Type 0
-  Accepted = keyed_refusal slots count pairs values input strategy held old ≡ 0
+  Accepted = keyed_refusal slots count pairs values input strategy held old ≡ None
 
   abbrev pub AcceptedSoFar : Type 0
-  AcceptedSoFar = first_refusal (map_refusals slots count pairs values ++ (width_outside strategy, 3) ∷ (not (length input == slots), 7) ∷ []) ≡ 0
+  AcceptedSoFar = first_refusal (map_refusals slots count pairs values ++ (width_outside strategy, OutOfRange) ∷ (not (length input == slots), Length) ∷ []) ≡ None
 
   -- some key rotation of the plan isn't on the held list
   abbrev pub KeyMissing : Type 0
@@ -72,7 +74,7 @@ module _ {slots count : ℕ} {pairs values input : List ℕ} {strategy : LinearT
 
   -- ---- it says key missing exactly if a key rotation of the plan isn't on the held list
 
-  pub key_missing_exactly : AcceptedSoFar → (r ≡ Refused 11 → KeyMissing) × (KeyMissing → r ≡ Refused 11)
+  pub key_missing_exactly : AcceptedSoFar → (r ≡ Err Key → KeyMissing) × (KeyMissing → r ≡ Err Key)
   key_missing_exactly z = (run_missing k z, run_misses k z)
 
   -- ---- every lent word is that of the machine after n switches, or after all where n is more; refused, all is as it was
@@ -105,7 +107,7 @@ module _ {slots count : ℕ} {pairs values input : List ℕ} {strategy : LinearT
     pub logged : take (switches_of r) new.log ≡ rotations
 
   pub exact_count : Accepted → Counted
-  unfolding keyed_answered
+  unfolding keyed_progress
   exact_count ok =
       let s = ap switches_of (run_answer k ok) in
       let l = run_logged k ok in
@@ -129,7 +131,7 @@ module _ {slots count : ℕ} {pairs values input : List ℕ} {strategy : LinearT
   pub finished_is_matrix : Accepted → total ≤ n → (s : ℕ) → s < slots → slice_index new.out s ≡ dot modulus slots (matrix slots map_of s) input
   finished_is_matrix ok h s l = ap (λ (v : List ℕ). slice_index v s) (run_finished k ok h) ∙ product_slot (run_taken k ok) old.out s l
 
-  pub finished_is_plain : Accepted → total ≤ n → {strategy' : LinearTransformationStrategy} {out out' : List ℕ} {e : ℕ} → Evaluated slots count pairs values input strategy' out out' e → e ≡ 0
+  pub finished_is_plain : Accepted → total ≤ n → {strategy' : LinearTransformationStrategy} {out out' : List ℕ} {e : Result Unit Refusal} → Evaluated slots count pairs values input strategy' out out' e → e ≡ Ok tt
       → (take slots new.out ≡ take slots out') × (out ≡ old.out → out' ≡ new.out)
   finished_is_plain ok h plain z = run_plain k ok h plain z
 
@@ -143,18 +145,18 @@ module _ {slots count : ℕ} {pairs values input : List ℕ} {strategy : LinearT
 
 -- ---- with powers of two and no gap, at most b switches more than with a key for each rotation
 
-pub few_switches : (slots count : ℕ) (pairs values : List ℕ) (width : ℕ) → map_refusal slots count pairs values ≡ 0 → 0 < width → NoGaps slots width (offsets_of (view count pairs values))
+pub few_switches : (slots count : ℕ) (pairs values : List ℕ) (width : ℕ) → map_refusal slots count pairs values ≡ None → 0 < width → NoGaps slots width (offsets_of (view count pairs values))
     → map_switches slots (BsgsPowersOfTwo width) (view count pairs values) ≤ map_switches slots (Bsgs width) (view count pairs values) + (plan_tree slots width (offsets_of (view count pairs values))).bits
 few_switches slots count pairs values width e w gaps = map_few slots count pairs values width e w gaps
 
-pub few_switches_made : {slots count width : ℕ} {pairs values input held : List ℕ} {n : ℕ} {old new : Lent} {r : KeyedAnswer} (k : KeyedRun slots count pairs values input (BsgsPowersOfTwo width) held n old new r) → Accepted k → NoGaps slots width (offsets_of (map_of k))
+pub few_switches_made : {slots count width : ℕ} {pairs values input held : List ℕ} {n : ℕ} {old new : Lent} {r : Result Progress Refusal} (k : KeyedRun slots count pairs values input (BsgsPowersOfTwo width) held n old new r) → Accepted k → NoGaps slots width (offsets_of (map_of k))
     → switches_of r ≤ map_switches slots (Bsgs width) (map_of k) + (plan_tree slots width (offsets_of (map_of k))).bits
 few_switches_made {slots} {count} {width} {pairs} {values} k ok gaps =
     omega (arith, (exact_count k ok).switches, few_switches slots count pairs values width (run_taken k ok).map_accepted (run_taken k ok).width gaps)
 
 -- ---- what is switched depends on the stored offsets alone: not on a slot of the map or the input, nor on what is held
 
-module _ {slots count count' : ℕ} {pairs pairs' values values' input input' : List ℕ} {strategy : LinearTransformationStrategy} {held held' : List ℕ} {n : ℕ} {old old' new new' : Lent} {r r' : KeyedAnswer}
+module _ {slots count count' : ℕ} {pairs pairs' values values' input input' : List ℕ} {strategy : LinearTransformationStrategy} {held held' : List ℕ} {n : ℕ} {old old' new new' : Lent} {r r' : Result Progress Refusal}
     (k : KeyedRun slots count pairs values input strategy held n old new r) (k' : KeyedRun slots count' pairs' values' input' strategy held' n old' new' r') where
   pub record SameSchedule : Type 0 where
     pub answers : r ≡ r'
@@ -168,7 +170,7 @@ module _ {slots count count' : ℕ} {pairs pairs' values values' input input' : 
   pub schedule_reads_no_slot : Accepted k → Accepted k' → offsets_of (map_of k) ≡ offsets_of (map_of k') → SameSchedule
   schedule_reads_no_slot a b e =
       record {
-        answers = run_answer k a ∙ answered_alike slots strategy n (map_of k) (map_of k') e ∙ sym (run_answer k' b);
+        answers = run_answer k a ∙ ap Ok (progress_alike slots strategy n (map_of k) (map_of k') e) ∙ sym (run_answer k' b);
         plan_words_fact = rw e;
         pair_records = rw e;
         log_words = rw e;

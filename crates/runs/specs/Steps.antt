@@ -2,6 +2,7 @@
 pub mod Plain
 pub mod Keyed
 pub mod Nodes
+pub mod Leaves
 pub mod Giants
 pub mod Surveys
 pub mod Runs

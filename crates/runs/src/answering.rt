@@ -2,18 +2,11 @@
 // node, which stands at the first place.
 ghost use Rattle.std.specs.Prelude.{◌≡◌, ◌*◌, ◌≤◌, length};
 ghost use Rattle.ring.specs.Slots.{modulus};
-ghost use Rattle.ring.specs.Vectors.{tabulate};
 ghost use Rattle.runs.specs.Machines.{node_sum};
-ghost use Rattle.runs.specs.Steps.Runs.{vector_added, AnswerAsked, answer_by};
+ghost use Rattle.runs.specs.Steps.Runs.{AnswerAsked, top_by, answer_by};
 
-fn add_vector(vector: &[u64], out: &mut [u64])
-    requires { length vector.now ≡ length out.old }
-    ensures { out.new ≡ tabulate (length out.old) (vector_added vector.now out.old) }
-{
-    for s in 0..out.len() {
-        out[s] = std::num::wrapping_add_u64(out[s], vector[s]);
-    }
-}
+use crate::surveying::Powers;
+use crate::turning::add_vector;
 
 // The sum of the first n nodes.
 fn sum_nodes(n: usize, nodes: &[u64], out: &mut [u64])
@@ -21,29 +14,34 @@ fn sum_nodes(n: usize, nodes: &[u64], out: &mut [u64])
     ensures { out.new ≡ node_sum modulus (length out.old) n nodes.now }
 {
     let slots = out.len();
-    crate::clear(out);
-    let mut p = 0;
-    while p < n {
+    out.fill(0);
+    // Nodes have places in one buffer.
+    for p in 0..n {
         let start = p * slots;
         let end = start + slots;
         add_vector(&nodes[start..end], out);
-        p += 1;
     }
 }
 
-// Step 0 says that each rotation has its own key.
-pub(crate) fn give_answer(step: u32, giants: usize, nodes: &[u64], out: &mut [u64])
+// The top node stands first; zeros if there is no giant.
+fn top_node(giants: usize, nodes: &[u64], out: &mut [u64])
     requires { AnswerAsked giants nodes.now out.old }
-    ensures { out.new ≡ answer_by step giants nodes.now (length out.old) }
+    ensures { out.new ≡ top_by giants nodes.now (length out.old) }
 {
-    if step == 0 {
-        sum_nodes(giants, nodes, out);
-        return;
-    }
     if giants == 0 {
-        crate::clear(out);
+        out.fill(0);
         return;
     }
     let slots = out.len();
-    let _given = diagonals::rotate_slots_into(&nodes[..slots], 0, out);
+    out.copy_from_slice(&nodes[..slots]);
+}
+
+pub(crate) fn give_answer(powers: Option<Powers>, giants: usize, nodes: &[u64], out: &mut [u64])
+    requires { AnswerAsked giants nodes.now out.old }
+    ensures { out.new ≡ answer_by powers giants nodes.now (length out.old) }
+{
+    match powers {
+        None => sum_nodes(giants, nodes, out),
+        Some(_) => top_node(giants, nodes, out),
+    }
 }

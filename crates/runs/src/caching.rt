@@ -6,22 +6,14 @@ ghost use Rattle.runs.specs.Switches.{place_of, source_of};
 ghost use Rattle.runs.specs.Machines.{source_vector};
 ghost use Rattle.runs.specs.Steps.Keyed.{Listed, Reading, Turnable, TurnIs, Caching, BabyMade, BabiesMade};
 
+use crate::surveying::Powers;
+
 // The place of a number in a rising list that has it.
 fn place_of(babies: &[u32], baby: u32) -> usize
     requires { Listed babies.now baby }
     ensures { result ≡ place_of baby babies.now }
 {
-    let mut low = 0;
-    let mut high = babies.len();
-    while low + 1 < high {
-        let mid = low + (high - low) / 2;
-        if babies[mid] <= baby {
-            low = mid;
-        } else {
-            high = mid;
-        }
-    }
-    low
+    babies.partition_point(|&b| b < baby)
 }
 
 // The input rotated by a baby: for 0 the input itself, else the baby's vector of the cache.
@@ -44,58 +36,54 @@ pub(crate) fn rotated_input<'a>(
 }
 
 // The rotation that makes a baby: the baby itself, and with powers of two the top bit of its multiple
-// of the step. Step 0 says that each rotation has its own key.
-fn turn_of(baby: u32, step: u32) -> u32
-    requires { Turnable baby step }
-    ensures { TurnIs baby step result }
+// of the step.
+fn turn_of(baby: u32, powers: Option<Powers>) -> u32
+    requires { Turnable baby powers }
+    ensures { TurnIs baby powers result }
 {
-    if step == 0 {
-        return baby;
+    match powers {
+        None => baby,
+        Some(p) => p.step << (baby / p.step).ilog2(),
     }
-    let mut turn = step;
-    while turn <= baby - turn {
-        turn = 2 * turn;
-    }
-    turn
 }
 
 // Makes the p-th baby that is not 0, and gives the rotation.
-fn baby_switch(babies: &[u32], step: u32, p: usize, input: &[u64], cache: &mut [u64]) -> u32
-    requires caching { Caching babies.now step input.now cache.old }
+fn baby_switch(
+    babies: &[u32],
+    powers: Option<Powers>,
+    p: usize,
+    input: &[u64],
+    cache: &mut [u64],
+) -> u32
+    requires caching { Caching babies.now powers input.now cache.old }
     requires p_in_bounds { p < length (nonzeros babies.now) }
-    ensures { BabyMade babies.now step p input.now cache.old cache.new result }
+    ensures { BabyMade babies.now powers p input.now cache.old cache.new result }
 {
     let slots = input.len();
     let baby = babies[p + 1];
-    let turn = turn_of(baby, step);
-    let source = baby - turn;
-    if source == 0 {
-        let start = p * slots;
-        let end = start + slots;
-        let _made = diagonals::rotate_slots_into(input, turn as i64, &mut cache[start..end]);
-        return turn;
-    }
-    let from = place_of(babies, source) - 1;
-    crate::turning::copy_turned(cache, slots, p, from, ring::wide(turn));
+    let turn = turn_of(baby, powers);
+    let (made, rest) = cache.split_at_mut(p * slots);
+    let source = rotated_input(babies, baby - turn, input, made);
+    diagonals::rotate_slots_into(source, turn as i64, &mut rest[..slots]).unwrap();
     turn
 }
 
 // The first n baby switches.
 pub(crate) fn make_babies(
     babies: &[u32],
-    step: u32,
+    powers: Option<Powers>,
     n: usize,
     input: &[u64],
     cache: &mut [u64],
     log: &mut [u32],
 )
-    requires caching { Caching babies.now step input.now cache.old }
+    requires caching { Caching babies.now powers input.now cache.old }
     requires n_in_bounds { n ≤ length (nonzeros babies.now) }
     requires n_in_bounds_2 { n ≤ length log.old }
-    ensures { BabiesMade babies.now step n input.now cache.old cache.new log.old log.new }
+    ensures { BabiesMade babies.now powers n input.now cache.old cache.new log.old log.new }
 {
-    for p in 0..n {
-        let turn = baby_switch(babies, step, p, input, cache);
-        log[p] = turn;
+    let turns = &mut log[..n];
+    for (p, turn) in turns.iter_mut().enumerate() {
+        *turn = baby_switch(babies, powers, p, input, cache);
     }
 }

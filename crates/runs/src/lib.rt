@@ -1,5 +1,5 @@
-// The plain run (`evaluate` of poulpy's diagonals.rs): a map times an input, slot by slot. Numbers of
-// refusals are those of document 01.
+// The plain run (`evaluate` of poulpy's diagonals.rs): a map times an input, slot by slot. Refusals are
+// those of document 01.
 #![tactic(auto)]
 
 mod answering;
@@ -8,6 +8,8 @@ mod giants;
 pub mod keyed;
 mod nodes;
 mod products;
+mod surveying;
+mod tree;
 mod turning;
 
 ghost use Rattle.std.specs.Prelude.{◌≡◌, ◌≤◌, length};
@@ -18,13 +20,7 @@ ghost use Rattle.diagonals.specs.Products.{product};
 ghost use Rattle.runs.specs.Calls.{Evaluated};
 ghost use Rattle.runs.specs.Steps.Plain.{diagonal_added, Repeated};
 
-pub(crate) fn clear(out: &mut [u64])
-    ensures { out.new ≡ tabulate (length out.old) (λ i. 0) }
-{
-    for i in 0..out.len() {
-        out[i] = 0;
-    }
-}
+use ring::Refusal;
 
 // Adds a diagonal, given by one period: times the input from k on up to its end, and from its start on.
 fn add_diagonal(period: &[u64], k: usize, input: &[u64], table: &mut [u64], out: &mut [u64])
@@ -45,16 +41,15 @@ fn multiply(count: usize, pairs: &[u32], values: &[u64], input: &[u64], out: &mu
     requires well_formed { WellFormed (length input.now) count pairs.now values.now }
     ensures { out.new ≡ tabulate (length input.now) (product modulus (length input.now) (view count pairs.now values.now) input.now) }
 {
-    clear(out);
+    out.fill(0);
     let mut table = [0u64; 512];
     let mut start: usize = 0;
-    let mut i = 0;
-    while i < count {
-        let end = start + ring::wide(diagonals::length_at(pairs, i));
-        let k = ring::wide(diagonals::offset_at(pairs, i));
+    // By their number, since only the store knows where the words of a pair stand.
+    for i in 0..count {
+        let end = start + diagonals::length_at(pairs, i) as usize;
+        let k = diagonals::offset_at(pairs, i) as usize;
         add_diagonal(&values[start..end], k, input, &mut table, out);
         start = end;
-        i += 1;
     }
 }
 
@@ -69,22 +64,19 @@ pub fn evaluate(
     input: &[u64],
     strategy: linear_transformation::LinearTransformationStrategy,
     out: &mut [u64],
-) -> u32
+) -> Result<(), Refusal>
     ensures { Evaluated slots count pairs.now values.now input.now strategy out.old out.new result }
 {
-    let code = diagonals::map_refusal(slots, count, pairs, values);
-    if code != 0 {
-        return code;
-    }
+    diagonals::check_map(slots, count, pairs, values)?;
     if linear_transformation::is_width_outside(strategy) {
-        return 3;
+        return Err(Refusal::OutOfRange);
     }
     if input.len() != slots {
-        return 7;
+        return Err(Refusal::Length);
     }
     if out.len() < slots {
-        return 12;
+        return Err(Refusal::Room);
     }
     multiply(count, pairs, values, input, &mut out[..slots]);
-    0
+    Ok(())
 }

@@ -13,10 +13,10 @@ fn add_around(period: &[u64], from: usize, vector: &[u64], part: &mut [u64])
     let mut s = 0;
     while s < n {
         let at = (from + s) % len;
-        let run = ring::least(len - at, n - s);
+        let run = (len - at).min(n - s);
         let to = at + run;
         let end = s + run;
-        let _added = ring::multiply_add_into(&period[at..to], &vector[s..end], &mut part[s..end]);
+        ring::multiply_add_into(&period[at..to], &vector[s..end], &mut part[s..end]).unwrap();
         s = end;
     }
 }
@@ -35,12 +35,12 @@ pub(crate) fn add_period(
     ensures { part.new ≡ tabulate (length part.old) (around_added period.now from vector.now part.old) }
 {
     let len = period.len();
-    let room = ring::least(table.len(), part.len());
+    let room = table.len().min(part.len());
     if room / 4 < len {
         add_around(period, from, vector, part);
         return;
     }
     let whole = room - room % len;
-    let _laid = diagonals::rotate_slots_into(period, 0, &mut table[..whole]);
+    diagonals::rotate_slots_into(period, 0, &mut table[..whole]).unwrap();
     add_around(&table[..whole], from, vector, part);
 }

@@ -4,6 +4,9 @@ ghost use Rattle.ring.specs.Answers.{numbers};
 ghost use Rattle.map_file.specs.Calls.{size_answer, FileWritten, room_numbers, room_answer, map_numbers};
 ghost use Rattle.sibukyaran.specs.Numbers.{told, told_room, told_map, Told, FileTold};
 
+use map_file::{FileMap, FileRoom};
+use ring::Refusal;
+
 // A refusal (0: none), and the room that a file's map needs, in words of pairs and in values (0 where
 // refused).
 #[repr(C)]
@@ -23,40 +26,41 @@ pub struct FileMapNumbers {
     pub count: usize,
 }
 
-fn room_of(a: map_file::FileRoom) -> FileRoomNumbers
-    ensures { told_room result ≡ room_numbers a }
-{
-    match a {
-        map_file::FileRoom::Refused(e) => FileRoomNumbers {
-            refusal: e,
-            pairs: 0,
-            values: 0,
-        },
-        map_file::FileRoom::Is {
-            pairs: p,
-            values: v,
-        } => FileRoomNumbers {
-            refusal: 0,
-            pairs: p,
-            values: v,
-        },
+impl From<Result<FileRoom, Refusal>> for FileRoomNumbers {
+    ghost from_gives = { λ r n. told_room n ≡ room_numbers r };
+
+    fn from(answer: Result<FileRoom, Refusal>) -> Self {
+        match answer {
+            Ok(room) => FileRoomNumbers {
+                refusal: 0,
+                pairs: room.pairs,
+                values: room.values,
+            },
+            Err(e) => FileRoomNumbers {
+                refusal: e.number(),
+                pairs: 0,
+                values: 0,
+            },
+        }
     }
 }
 
-fn map_of(a: map_file::FileMap) -> FileMapNumbers
-    ensures { told_map result ≡ map_numbers a }
-{
-    match a {
-        map_file::FileMap::Refused(e) => FileMapNumbers {
-            refusal: e,
-            slots: 0,
-            count: 0,
-        },
-        map_file::FileMap::Is { slots: s, count: c } => FileMapNumbers {
-            refusal: 0,
-            slots: s,
-            count: c,
-        },
+impl From<Result<FileMap, Refusal>> for FileMapNumbers {
+    ghost from_gives = { λ r n. told_map n ≡ map_numbers r };
+
+    fn from(answer: Result<FileMap, Refusal>) -> Self {
+        match answer {
+            Ok(map) => FileMapNumbers {
+                refusal: 0,
+                slots: map.slots,
+                count: map.count,
+            },
+            Err(e) => FileMapNumbers {
+                refusal: e.number(),
+                slots: 0,
+                count: 0,
+            },
+        }
     }
 }
 
@@ -69,7 +73,7 @@ pub extern "C" fn sibukyaran_map_file_size(
 ) -> crate::Numbers
     ensures { told result ≡ numbers (size_answer slots count pairs.now values.now) }
 {
-    crate::numbers_of(map_file::map_file_size(slots, count, pairs, values))
+    map_file::map_file_size(slots, count, pairs, values).into()
 }
 
 #[unsafe(no_mangle)]
@@ -82,14 +86,14 @@ pub extern "C" fn sibukyaran_write_map_file(
 ) -> crate::Numbers
     ensures { Told (FileWritten slots count pairs.now values.now out.old out.new) result }
 {
-    crate::numbers_of(map_file::write_map_file(slots, count, pairs, values, out))
+    map_file::write_map_file(slots, count, pairs, values, out).into()
 }
 
 #[unsafe(no_mangle)]
 pub extern "C" fn sibukyaran_map_file_room(bytes: &[u8]) -> FileRoomNumbers
     ensures { told_room result ≡ room_numbers (room_answer bytes.now) }
 {
-    room_of(map_file::map_file_room(bytes))
+    map_file::map_file_room(bytes).into()
 }
 
 #[unsafe(no_mangle)]
@@ -100,5 +104,5 @@ pub extern "C" fn sibukyaran_read_map_file(
 ) -> FileMapNumbers
     ensures { FileTold bytes.now pairs.old pairs.new values.old values.new result }
 {
-    map_of(map_file::read_map_file(bytes, pairs, values))
+    map_file::read_map_file(bytes, pairs, values).into()
 }

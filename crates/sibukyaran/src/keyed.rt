@@ -26,8 +26,8 @@ pub extern "C" fn sibukyaran_evaluate_keyed(
     ensures { KeyedTold slots count pairs.now values.now input.now (strategy_of strategy giant_step) held.now n (lent plan.old records.old cache.old nodes.old log.old out.old) (lent plan.new records.new cache.new nodes.new log.new out.new) result }
 {
     let how = crate::kinds::strategy_of(strategy, giant_step);
-    let a = runs::keyed::evaluate_keyed(
+    runs::keyed::evaluate_keyed(
         slots, count, pairs, values, input, how, held, n, plan, records, cache, nodes, log, out,
-    );
-    crate::keyed_of(a)
+    )
+    .into()
 }

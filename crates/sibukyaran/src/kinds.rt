@@ -5,25 +5,19 @@ ghost use Rattle.sibukyaran.specs.Kinds.{strategy_of, rotations_of};
 
 use linear_transformation::{BsgsRotations, LinearTransformationStrategy};
 
+// Kept: C gives a kind as a number, and every number has an answer, so that there is no error to give.
 pub(crate) fn strategy_of(kind: u32, giant_step: usize) -> LinearTransformationStrategy
     ensures { result ≡ strategy_of kind giant_step }
 {
-    if kind == 0 {
-        return LinearTransformationStrategy::Bsgs {
-            giant_step: giant_step,
-        };
+    match kind {
+        0 => LinearTransformationStrategy::Bsgs { giant_step },
+        1 => LinearTransformationStrategy::BsgsPowersOfTwo { giant_step },
+        2 => LinearTransformationStrategy::Direct,
+        _ => LinearTransformationStrategy::Bsgs { giant_step: 0 },
     }
-    if kind == 1 {
-        return LinearTransformationStrategy::BsgsPowersOfTwo {
-            giant_step: giant_step,
-        };
-    }
-    if kind == 2 {
-        return LinearTransformationStrategy::Direct;
-    }
-    LinearTransformationStrategy::Bsgs { giant_step: 0 }
 }
 
+// Kept: C gives this kind as a number too, and every number has an answer.
 pub(crate) fn rotations_of(
     kind: u32,
     baby_step: usize,
@@ -32,19 +26,17 @@ pub(crate) fn rotations_of(
 ) -> BsgsRotations
     ensures { result ≡ rotations_of kind baby_step giant_step slots }
 {
-    if kind == 0 {
-        return BsgsRotations::PerRotation;
-    }
-    if kind == 1 {
-        return BsgsRotations::PowersOfTwo {
-            baby_step: baby_step,
-            giant_step: giant_step,
-            slots: slots,
-        };
-    }
-    BsgsRotations::PowersOfTwo {
-        baby_step: 0,
-        giant_step: 0,
-        slots: slots,
+    match kind {
+        0 => BsgsRotations::PerRotation,
+        1 => BsgsRotations::PowersOfTwo {
+            baby_step,
+            giant_step,
+            slots,
+        },
+        _ => BsgsRotations::PowersOfTwo {
+            baby_step: 0,
+            giant_step: 0,
+            slots,
+        },
     }
 }

@@ -11,13 +11,19 @@ mod rotations;
 mod slots;
 mod store;
 
-ghost use Rattle.std.specs.Prelude.{◌≡◌, ◌^◌, ◌<◌};
-ghost use Rattle.std.specs.Int.Signed.{mag};
-ghost use Rattle.ring.specs.Answers.{numbers};
+ghost use Rattle.std.specs.Prelude.{◌≡◌};
+ghost use Rattle.ring.specs.Answers.{numbers, code_of};
 ghost use Rattle.diagonals.specs.Calls.{truths};
 ghost use Rattle.linear_transformation.specs.Calls.{digit_numbers, plan_numbers, pass_numbers, tree_numbers};
 ghost use Rattle.runs.specs.Keyed.{keyed_numbers};
 ghost use Rattle.sibukyaran.specs.Numbers.{told, told_truth, told_digit, told_plan, told_passes, told_tree, told_keyed};
+
+use linear_transformation::{Digit, PassSizes, PlanSizes, TreeSizes};
+use ring::Refusal;
+use runs::keyed::Progress;
+
+// Kept: C has no Result and no generic types, so each kind of value has a struct with the refusal's number beside it, and a
+// From of its own, here and in files.rt.
 
 // A refusal (0: none) and a value (0 where refused).
 #[repr(C)]
@@ -85,145 +91,148 @@ pub struct KeyedNumbers {
     pub pairs: usize,
 }
 
-fn numbers_of(a: ring::Answer) -> Numbers
-    ensures { told result ≡ numbers a }
-{
-    match a {
-        ring::Answer::Refused(e) => Numbers {
-            refusal: e,
-            value: 0,
-        },
-        ring::Answer::Is(n) => Numbers {
-            refusal: 0,
-            value: n,
-        },
+impl From<Result<usize, Refusal>> for Numbers {
+    ghost from_gives = { λ r n. told n ≡ numbers r };
+
+    fn from(answer: Result<usize, Refusal>) -> Self {
+        match answer {
+            Ok(value) => Numbers { refusal: 0, value },
+            Err(e) => Numbers {
+                refusal: e.number(),
+                value: 0,
+            },
+        }
     }
 }
 
-fn truth_of(t: diagonals::Test) -> Truth
-    ensures { told_truth result ≡ truths t }
-{
-    match t {
-        diagonals::Test::Refused(e) => Truth {
-            refusal: e,
-            value: false,
-        },
-        diagonals::Test::Is(b) => Truth {
-            refusal: 0,
-            value: b,
-        },
+impl From<Result<bool, Refusal>> for Truth {
+    ghost from_gives = { λ r n. told_truth n ≡ truths r };
+
+    fn from(answer: Result<bool, Refusal>) -> Self {
+        match answer {
+            Ok(value) => Truth { refusal: 0, value },
+            Err(e) => Truth {
+                refusal: e.number(),
+                value: false,
+            },
+        }
     }
 }
 
-fn digit_of(d: linear_transformation::DigitAnswer) -> SignedDigit
-    requires { mag (digit_numbers d).1 < 2 ^ 15 }
-    ensures { told_digit result ≡ digit_numbers d }
-{
-    match d {
-        linear_transformation::DigitAnswer::Refused(e) => SignedDigit {
-            refusal: e,
-            value: 0,
-        },
-        linear_transformation::DigitAnswer::Is(j) => SignedDigit {
-            refusal: 0,
-            value: j.0,
-        },
+impl From<Result<Digit, Refusal>> for SignedDigit {
+    ghost from_gives = { λ r n. told_digit n ≡ digit_numbers r };
+
+    fn from(answer: Result<Digit, Refusal>) -> Self {
+        match answer {
+            Ok(digit) => SignedDigit {
+                refusal: 0,
+                value: digit.0,
+            },
+            Err(e) => SignedDigit {
+                refusal: e.number(),
+                value: 0,
+            },
+        }
     }
 }
 
-fn plan_of(a: linear_transformation::PlanAnswer) -> PlanNumbers
-    ensures { told_plan result ≡ plan_numbers a }
-{
-    match a {
-        linear_transformation::PlanAnswer::Refused(e) => PlanNumbers {
-            refusal: e,
-            babies: 0,
-            giants: 0,
-            diagonals: 0,
-        },
-        linear_transformation::PlanAnswer::Is {
-            babies: b,
-            giants: g,
-            diagonals: d,
-        } => PlanNumbers {
-            refusal: 0,
-            babies: b,
-            giants: g,
-            diagonals: d,
-        },
+impl From<Result<PlanSizes, Refusal>> for PlanNumbers {
+    ghost from_gives = { λ r n. told_plan n ≡ plan_numbers r };
+
+    fn from(answer: Result<PlanSizes, Refusal>) -> Self {
+        match answer {
+            Ok(plan) => PlanNumbers {
+                refusal: 0,
+                babies: plan.babies,
+                giants: plan.giants,
+                diagonals: plan.diagonals,
+            },
+            Err(e) => PlanNumbers {
+                refusal: e.number(),
+                babies: 0,
+                giants: 0,
+                diagonals: 0,
+            },
+        }
     }
 }
 
-fn passes_of(a: linear_transformation::PassesAnswer) -> PassNumbers
-    ensures { told_passes result ≡ pass_numbers a }
-{
-    match a {
-        linear_transformation::PassesAnswer::Refused(e) => PassNumbers {
-            refusal: e,
-            passes: 0,
-            moves: 0,
-        },
-        linear_transformation::PassesAnswer::Is {
-            passes: p,
-            moves: m,
-        } => PassNumbers {
-            refusal: 0,
-            passes: p,
-            moves: m,
-        },
+impl From<Result<PassSizes, Refusal>> for PassNumbers {
+    ghost from_gives = { λ r n. told_passes n ≡ pass_numbers r };
+
+    fn from(answer: Result<PassSizes, Refusal>) -> Self {
+        match answer {
+            Ok(made) => PassNumbers {
+                refusal: 0,
+                passes: made.passes,
+                moves: made.moves,
+            },
+            Err(e) => PassNumbers {
+                refusal: e.number(),
+                passes: 0,
+                moves: 0,
+            },
+        }
     }
 }
 
-fn tree_of(a: linear_transformation::TreeAnswer) -> TreeNumbers
-    ensures { told_tree result ≡ tree_numbers a }
-{
-    match a {
-        linear_transformation::TreeAnswer::Refused(e) => TreeNumbers {
-            refusal: e,
-            bits: 0,
-            pairs: 0,
-        },
-        linear_transformation::TreeAnswer::NoTree => TreeNumbers {
-            refusal: 0,
-            bits: 0,
-            pairs: 0,
-        },
-        linear_transformation::TreeAnswer::Is { bits: b, pairs: n } => TreeNumbers {
-            refusal: 0,
-            bits: b,
-            pairs: n,
-        },
+impl From<Result<Option<TreeSizes>, Refusal>> for TreeNumbers {
+    ghost from_gives = { λ r n. told_tree n ≡ tree_numbers r };
+
+    fn from(answer: Result<Option<TreeSizes>, Refusal>) -> Self {
+        match answer {
+            Ok(Some(tree)) => TreeNumbers {
+                refusal: 0,
+                bits: tree.bits,
+                pairs: tree.pairs,
+            },
+            Ok(None) => TreeNumbers {
+                refusal: 0,
+                bits: 0,
+                pairs: 0,
+            },
+            Err(e) => TreeNumbers {
+                refusal: e.number(),
+                bits: 0,
+                pairs: 0,
+            },
+        }
     }
 }
 
-fn keyed_of(a: runs::keyed::KeyedAnswer) -> KeyedNumbers
-    ensures { told_keyed result ≡ keyed_numbers a }
+impl From<Result<Progress, Refusal>> for KeyedNumbers {
+    ghost from_gives = { λ r n. told_keyed n ≡ keyed_numbers r };
+
+    fn from(answer: Result<Progress, Refusal>) -> Self {
+        match answer {
+            Ok(run) => KeyedNumbers {
+                refusal: 0,
+                switches: run.switches,
+                finished: run.finished,
+                babies: run.babies,
+                giants: run.giants,
+                diagonals: run.diagonals,
+                pairs: run.pairs,
+            },
+            Err(e) => KeyedNumbers {
+                refusal: e.number(),
+                switches: 0,
+                finished: false,
+                babies: 0,
+                giants: 0,
+                diagonals: 0,
+                pairs: 0,
+            },
+        }
+    }
+}
+
+// The refusal's number, 0 where there is none.
+fn code_of(answer: Result<(), Refusal>) -> u32
+    ensures { result ≡ code_of answer }
 {
-    match a {
-        runs::keyed::KeyedAnswer::Refused(e) => KeyedNumbers {
-            refusal: e,
-            switches: 0,
-            finished: false,
-            babies: 0,
-            giants: 0,
-            diagonals: 0,
-            pairs: 0,
-        },
-        runs::keyed::KeyedAnswer::Is {
-            switches: s,
-            finished: f,
-            babies: b,
-            giants: g,
-            diagonals: d,
-            pairs: p,
-        } => KeyedNumbers {
-            refusal: 0,
-            switches: s,
-            finished: f,
-            babies: b,
-            giants: g,
-            diagonals: d,
-            pairs: p,
-        },
+    match answer {
+        Ok(()) => 0,
+        Err(e) => e.number(),
     }
 }

@@ -16,7 +16,7 @@ pub extern "C" fn sibukyaran_sigma(
 ) -> crate::Numbers
     ensures { Told (RuleWritten slots log_d Sigma pairs.old pairs.new values.old values.new) result }
 {
-    crate::numbers_of(maps::sigma(slots, log_d, pairs, values))
+    maps::sigma(slots, log_d, pairs, values).into()
 }
 
 #[unsafe(no_mangle)]
@@ -28,7 +28,7 @@ pub extern "C" fn sibukyaran_tau(
 ) -> crate::Numbers
     ensures { Told (RuleWritten slots log_d Tau pairs.old pairs.new values.old values.new) result }
 {
-    crate::numbers_of(maps::tau(slots, log_d, pairs, values))
+    maps::tau(slots, log_d, pairs, values).into()
 }
 
 #[unsafe(no_mangle)]
@@ -40,7 +40,7 @@ pub extern "C" fn sibukyaran_transpose_matrices(
 ) -> crate::Numbers
     ensures { Told (RuleWritten slots log_d Transpose pairs.old pairs.new values.old values.new) result }
 {
-    crate::numbers_of(maps::transpose(slots, log_d, pairs, values))
+    maps::transpose(slots, log_d, pairs, values).into()
 }
 
 #[unsafe(no_mangle)]
@@ -53,7 +53,7 @@ pub extern "C" fn sibukyaran_rotate_rows(
 ) -> crate::Numbers
     ensures { Told (RuleWritten slots log_d (RotateRows k) pairs.old pairs.new values.old values.new) result }
 {
-    crate::numbers_of(maps::rotate_rows(slots, log_d, k, pairs, values))
+    maps::rotate_rows(slots, log_d, k, pairs, values).into()
 }
 
 #[unsafe(no_mangle)]
@@ -66,7 +66,7 @@ pub extern "C" fn sibukyaran_rotate_cols(
 ) -> crate::Numbers
     ensures { Told (RuleWritten slots log_d (RotateCols k) pairs.old pairs.new values.old values.new) result }
 {
-    crate::numbers_of(maps::rotate_cols(slots, log_d, k, pairs, values))
+    maps::rotate_cols(slots, log_d, k, pairs, values).into()
 }
 
 #[unsafe(no_mangle)]
@@ -79,7 +79,7 @@ pub extern "C" fn sibukyaran_rows_upper(
 ) -> crate::Numbers
     ensures { Told (RuleWritten slots log_d (RowsUpper k) pairs.old pairs.new values.old values.new) result }
 {
-    crate::numbers_of(maps::rows_upper(slots, log_d, k, pairs, values))
+    maps::rows_upper(slots, log_d, k, pairs, values).into()
 }
 
 #[unsafe(no_mangle)]
@@ -92,7 +92,7 @@ pub extern "C" fn sibukyaran_rows_lower(
 ) -> crate::Numbers
     ensures { Told (RuleWritten slots log_d (RowsLower k) pairs.old pairs.new values.old values.new) result }
 {
-    crate::numbers_of(maps::rows_lower(slots, log_d, k, pairs, values))
+    maps::rows_lower(slots, log_d, k, pairs, values).into()
 }
 
 #[unsafe(no_mangle)]
@@ -105,7 +105,7 @@ pub extern "C" fn sibukyaran_cols_left(
 ) -> crate::Numbers
     ensures { Told (RuleWritten slots log_d (ColsLeft k) pairs.old pairs.new values.old values.new) result }
 {
-    crate::numbers_of(maps::cols_left(slots, log_d, k, pairs, values))
+    maps::cols_left(slots, log_d, k, pairs, values).into()
 }
 
 #[unsafe(no_mangle)]
@@ -118,7 +118,7 @@ pub extern "C" fn sibukyaran_cols_right(
 ) -> crate::Numbers
     ensures { Told (RuleWritten slots log_d (ColsRight k) pairs.old pairs.new values.old values.new) result }
 {
-    crate::numbers_of(maps::cols_right(slots, log_d, k, pairs, values))
+    maps::cols_right(slots, log_d, k, pairs, values).into()
 }
 
 #[unsafe(no_mangle)]
@@ -131,7 +131,7 @@ pub extern "C" fn sibukyaran_rows_left(
 ) -> crate::Numbers
     ensures { Told (RuleWritten slots log_d (RowsLeft k) pairs.old pairs.new values.old values.new) result }
 {
-    crate::numbers_of(maps::rows_left(slots, log_d, k, pairs, values))
+    maps::rows_left(slots, log_d, k, pairs, values).into()
 }
 
 #[unsafe(no_mangle)]
@@ -144,7 +144,7 @@ pub extern "C" fn sibukyaran_rows_right(
 ) -> crate::Numbers
     ensures { Told (RuleWritten slots log_d (RowsRight k) pairs.old pairs.new values.old values.new) result }
 {
-    crate::numbers_of(maps::rows_right(slots, log_d, k, pairs, values))
+    maps::rows_right(slots, log_d, k, pairs, values).into()
 }
 
 #[unsafe(no_mangle)]
@@ -158,7 +158,7 @@ pub extern "C" fn sibukyaran_right_mul(
 ) -> crate::Numbers
     ensures { Told (ProductWritten slots log_d count RightMul b.now pairs.old pairs.new values.old values.new) result }
 {
-    crate::numbers_of(maps::right_mul(slots, log_d, count, b, pairs, values))
+    maps::right_mul(slots, log_d, count, b, pairs, values).into()
 }
 
 #[unsafe(no_mangle)]
@@ -172,7 +172,7 @@ pub extern "C" fn sibukyaran_left_mul(
 ) -> crate::Numbers
     ensures { Told (ProductWritten slots log_d count LeftMul b.now pairs.old pairs.new values.old values.new) result }
 {
-    crate::numbers_of(maps::left_mul(slots, log_d, count, b, pairs, values))
+    maps::left_mul(slots, log_d, count, b, pairs, values).into()
 }
 
 #[unsafe(no_mangle)]
@@ -186,7 +186,7 @@ pub extern "C" fn sibukyaran_right_jkls(
 ) -> crate::Numbers
     ensures { Told (ProductWritten slots log_d count RightJkls b.now pairs.old pairs.new values.old values.new) result }
 {
-    crate::numbers_of(maps::right_jkls(slots, log_d, count, b, pairs, values))
+    maps::right_jkls(slots, log_d, count, b, pairs, values).into()
 }
 
 #[unsafe(no_mangle)]
@@ -200,7 +200,7 @@ pub extern "C" fn sibukyaran_left_jkls(
 ) -> crate::Numbers
     ensures { Told (ProductWritten slots log_d count LeftJkls b.now pairs.old pairs.new values.old values.new) result }
 {
-    crate::numbers_of(maps::left_jkls(slots, log_d, count, b, pairs, values))
+    maps::left_jkls(slots, log_d, count, b, pairs, values).into()
 }
 
 #[unsafe(no_mangle)]
@@ -213,7 +213,7 @@ pub extern "C" fn sibukyaran_left_mul_rep(
 ) -> crate::Numbers
     ensures { Told (LeftMulRepWritten slots log_d b.now pairs.old pairs.new values.old values.new) result }
 {
-    crate::numbers_of(maps::left_mul_rep(slots, log_d, b, pairs, values))
+    maps::left_mul_rep(slots, log_d, b, pairs, values).into()
 }
 
 #[unsafe(no_mangle)]
@@ -225,7 +225,7 @@ pub extern "C" fn sibukyaran_tau_rep(
 ) -> crate::Numbers
     ensures { Told (TiledWritten slots log_d (tau_rep (2 ^ log_d)) pairs.old pairs.new values.old values.new) result }
 {
-    crate::numbers_of(maps::tau_rep(slots, log_d, pairs, values))
+    maps::tau_rep(slots, log_d, pairs, values).into()
 }
 
 #[unsafe(no_mangle)]
@@ -237,7 +237,7 @@ pub extern "C" fn sibukyaran_first_row(
 ) -> crate::Numbers
     ensures { Told (TiledWritten slots log_d (first_row (2 ^ log_d)) pairs.old pairs.new values.old values.new) result }
 {
-    crate::numbers_of(maps::first_row(slots, log_d, pairs, values))
+    maps::first_row(slots, log_d, pairs, values).into()
 }
 
 #[unsafe(no_mangle)]
@@ -249,7 +249,7 @@ pub extern "C" fn sibukyaran_first_col(
 ) -> crate::Numbers
     ensures { Told (TiledWritten slots log_d (first_col (2 ^ log_d)) pairs.old pairs.new values.old values.new) result }
 {
-    crate::numbers_of(maps::first_col(slots, log_d, pairs, values))
+    maps::first_col(slots, log_d, pairs, values).into()
 }
 
 #[unsafe(no_mangle)]
@@ -262,7 +262,7 @@ pub extern "C" fn sibukyaran_rotate_rows_rep(
 ) -> crate::Numbers
     ensures { Told (RowsRepWritten slots log_d k pairs.old pairs.new values.old values.new) result }
 {
-    crate::numbers_of(maps::rotate_rows_rep(slots, log_d, k, pairs, values))
+    maps::rotate_rows_rep(slots, log_d, k, pairs, values).into()
 }
 
 #[unsafe(no_mangle)]
@@ -275,7 +275,7 @@ pub extern "C" fn sibukyaran_slot_product(
 ) -> crate::Numbers
     ensures { Told (SlotProductWritten slots v.now rotation pairs.old pairs.new values.old values.new) result }
 {
-    crate::numbers_of(maps::slot_product(slots, v, rotation, pairs, values))
+    maps::slot_product(slots, v, rotation, pairs, values).into()
 }
 
 #[unsafe(no_mangle)]
@@ -290,7 +290,7 @@ pub extern "C" fn sibukyaran_per_matrix_map(
 ) -> crate::Numbers
     ensures { Told (PerMatrixWritten slots log_d is.now js.now ws.now pairs.old pairs.new values.old values.new) result }
 {
-    crate::numbers_of(maps::per_matrix_map(slots, log_d, is, js, ws, pairs, values))
+    maps::per_matrix_map(slots, log_d, is, js, ws, pairs, values).into()
 }
 
 #[unsafe(no_mangle)]
@@ -302,7 +302,7 @@ pub extern "C" fn sibukyaran_tau_values(
 ) -> crate::Numbers
     ensures { Told (ValuesWritten true log_d count b.now out.old out.new) result }
 {
-    crate::numbers_of(maps::tau_values(log_d, count, b, out))
+    maps::tau_values(log_d, count, b, out).into()
 }
 
 #[unsafe(no_mangle)]
@@ -314,5 +314,5 @@ pub extern "C" fn sibukyaran_sigma_values(
 ) -> crate::Numbers
     ensures { Told (ValuesWritten false log_d count b.now out.old out.new) result }
 {
-    crate::numbers_of(maps::sigma_values(log_d, count, b, out))
+    maps::sigma_values(log_d, count, b, out).into()
 }

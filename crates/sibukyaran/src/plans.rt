@@ -7,7 +7,7 @@ ghost use Rattle.linear_transformation.specs.Listed.{baby_multiple};
 ghost use Rattle.linear_transformation.specs.declared.LinearTransformationStrategy.TheVariants.{Bsgs, BsgsPowersOfTwo};
 ghost use Rattle.linear_transformation.specs.Schedules.{baby_step, plan_babies, plan_keys, plan_switches};
 ghost use Rattle.linear_transformation.specs.Widths.{best_width};
-ghost use Rattle.linear_transformation.specs.Calls.{ListWritten, normalize_refusal, baby_refusal, plan_refusals, digit_refusal, digit_numbers, digit_answered};
+ghost use Rattle.linear_transformation.specs.Calls.{ListWritten, normalize_refusal, baby_refusal, plan_refusals, digit_refusal, digit_numbers};
 ghost use Rattle.ring.specs.Refusals.{first_refusal};
 ghost use Rattle.sibukyaran.specs.Kinds.{strategy_of};
 ghost use Rattle.sibukyaran.specs.Numbers.{told, told_digit, Told, PlanTold};
@@ -19,14 +19,14 @@ pub extern "C" fn sibukyaran_normalize_linear_transform_diagonal(
 ) -> crate::Numbers
     ensures { told result ≡ numbers (answered (normalize_refusal slots) (residue_of diagonal slots)) }
 {
-    crate::numbers_of(linear_transformation::normalize_linear_transform_diagonal(diagonal, slots))
+    linear_transformation::normalize_linear_transform_diagonal(diagonal, slots).into()
 }
 
 #[unsafe(no_mangle)]
 pub extern "C" fn sibukyaran_baby_multiple(baby: i64, baby_step: usize) -> crate::Numbers
     ensures { told result ≡ numbers (answered (baby_refusal baby baby_step) (baby_multiple baby baby_step)) }
 {
-    crate::numbers_of(linear_transformation::baby_multiple(baby, baby_step))
+    linear_transformation::baby_multiple(baby, baby_step).into()
 }
 
 #[unsafe(no_mangle)]
@@ -35,9 +35,9 @@ pub extern "C" fn sibukyaran_giant_digit(
     giant_step: usize,
     slots: usize,
 ) -> crate::SignedDigit
-    ensures { told_digit result ≡ digit_numbers (digit_answered (digit_refusal slots giant_step rot) (digit slots giant_step (rot_of slots rot))) }
+    ensures { told_digit result ≡ digit_numbers (answered (digit_refusal slots giant_step rot) (digit slots giant_step (rot_of slots rot))) }
 {
-    crate::digit_of(linear_transformation::giant_digit(rot, giant_step, slots))
+    linear_transformation::giant_digit(rot, giant_step, slots).into()
 }
 
 #[unsafe(no_mangle)]
@@ -49,8 +49,7 @@ pub extern "C" fn sibukyaran_linear_transformation_plan(
 ) -> crate::PlanNumbers
     ensures { PlanTold slots (Bsgs giant_step) indexes.now plan.old plan.new result }
 {
-    let a = linear_transformation::linear_transformation_plan(indexes, slots, giant_step, plan);
-    crate::plan_of(a)
+    linear_transformation::linear_transformation_plan(indexes, slots, giant_step, plan).into()
 }
 
 #[unsafe(no_mangle)]
@@ -64,7 +63,7 @@ pub extern "C" fn sibukyaran_linear_transform_index(
     ensures { PlanTold slots (strategy_of strategy giant_step) indexes.now plan.old plan.new result }
 {
     let how = crate::kinds::strategy_of(strategy, giant_step);
-    crate::plan_of(linear_transformation::linear_transform_index(indexes, slots, how, plan))
+    linear_transformation::linear_transform_index(indexes, slots, how, plan).into()
 }
 
 #[unsafe(no_mangle)]
@@ -78,7 +77,7 @@ pub extern "C" fn sibukyaran_baby_steps(
     ensures { Told (ListWritten (plan_refusals slots (strategy_of strategy giant_step)) (plan_babies slots (strategy_of strategy giant_step) (diagonals_of slots indexes.now)) out.old out.new) result }
 {
     let how = crate::kinds::strategy_of(strategy, giant_step);
-    crate::numbers_of(linear_transformation::baby_steps(indexes, slots, how, out))
+    linear_transformation::baby_steps(indexes, slots, how, out).into()
 }
 
 #[unsafe(no_mangle)]
@@ -89,7 +88,7 @@ pub extern "C" fn sibukyaran_baby_step(
 ) -> crate::Numbers
     ensures { told result ≡ numbers (answered (first_refusal (plan_refusals slots (BsgsPowersOfTwo giant_step))) (baby_step slots giant_step (diagonals_of slots indexes.now))) }
 {
-    crate::numbers_of(linear_transformation::baby_step(indexes, slots, giant_step))
+    linear_transformation::baby_step(indexes, slots, giant_step).into()
 }
 
 #[unsafe(no_mangle)]
@@ -103,7 +102,7 @@ pub extern "C" fn sibukyaran_plan_key_rotations(
     ensures { Told (ListWritten (plan_refusals slots (strategy_of strategy giant_step)) (plan_keys slots (strategy_of strategy giant_step) (diagonals_of slots indexes.now)) out.old out.new) result }
 {
     let how = crate::kinds::strategy_of(strategy, giant_step);
-    crate::numbers_of(linear_transformation::plan_key_rotations(indexes, slots, how, out))
+    linear_transformation::plan_key_rotations(indexes, slots, how, out).into()
 }
 
 #[unsafe(no_mangle)]
@@ -116,7 +115,7 @@ pub extern "C" fn sibukyaran_plan_key_switches(
     ensures { told result ≡ numbers (answered (first_refusal (plan_refusals slots (strategy_of strategy giant_step))) (plan_switches slots (strategy_of strategy giant_step) (diagonals_of slots indexes.now))) }
 {
     let how = crate::kinds::strategy_of(strategy, giant_step);
-    crate::numbers_of(linear_transformation::plan_key_switches(indexes, slots, how))
+    linear_transformation::plan_key_switches(indexes, slots, how).into()
 }
 
 #[unsafe(no_mangle)]
@@ -126,5 +125,5 @@ pub extern "C" fn sibukyaran_optimal_bsgs_giant_step(
 ) -> crate::Numbers
     ensures { told result ≡ numbers (answered (normalize_refusal slots) (best_width slots (diagonals_of slots indexes.now))) }
 {
-    crate::numbers_of(linear_transformation::optimal_bsgs_giant_step(indexes, slots))
+    linear_transformation::optimal_bsgs_giant_step(indexes, slots).into()
 }

@@ -21,7 +21,7 @@ pub extern "C" fn sibukyaran_baby_closure(
     ensures { Told (ListWritten (baby_refusals (rotations_of rotations baby_step giant_step slots) babies.now) (closure_of (rotations_of rotations baby_step giant_step slots) babies.now) out.old out.new) result }
 {
     let how = crate::kinds::rotations_of(rotations, baby_step, giant_step, slots);
-    crate::numbers_of(linear_transformation::baby_closure(how, babies, out))
+    linear_transformation::baby_closure(how, babies, out).into()
 }
 
 #[unsafe(no_mangle)]
@@ -36,7 +36,7 @@ pub extern "C" fn sibukyaran_baby_key_rotations(
     ensures { Told (ListWritten (baby_refusals (rotations_of rotations baby_step giant_step slots) babies.now) (baby_keys_of (rotations_of rotations baby_step giant_step slots) babies.now) out.old out.new) result }
 {
     let how = crate::kinds::rotations_of(rotations, baby_step, giant_step, slots);
-    crate::numbers_of(linear_transformation::baby_key_rotations(how, babies, out))
+    linear_transformation::baby_key_rotations(how, babies, out).into()
 }
 
 #[unsafe(no_mangle)]
@@ -51,7 +51,7 @@ pub extern "C" fn sibukyaran_giant_key_rotations(
     ensures { Told (ListWritten (giant_refusals (rotations_of rotations baby_step giant_step slots) giants.now) (giant_keys_of (rotations_of rotations baby_step giant_step slots) giants.now) out.old out.new) result }
 {
     let how = crate::kinds::rotations_of(rotations, baby_step, giant_step, slots);
-    crate::numbers_of(linear_transformation::giant_key_rotations(how, giants, out))
+    linear_transformation::giant_key_rotations(how, giants, out).into()
 }
 
 #[unsafe(no_mangle)]
@@ -65,7 +65,7 @@ pub extern "C" fn sibukyaran_giant_key_switches(
     ensures { told result ≡ numbers (answered (first_refusal (giant_refusals (rotations_of rotations baby_step giant_step slots) giants.now)) (giant_switches_of (rotations_of rotations baby_step giant_step slots) giants.now)) }
 {
     let how = crate::kinds::rotations_of(rotations, baby_step, giant_step, slots);
-    crate::numbers_of(linear_transformation::giant_key_switches(how, giants))
+    linear_transformation::giant_key_switches(how, giants).into()
 }
 
 #[unsafe(no_mangle)]
@@ -81,7 +81,7 @@ pub extern "C" fn sibukyaran_baby_passes(
     ensures { PassesTold (rotations_of rotations baby_step giant_step slots) babies.now passes.old passes.new moves.old moves.new result }
 {
     let how = crate::kinds::rotations_of(rotations, baby_step, giant_step, slots);
-    crate::passes_of(linear_transformation::baby_passes(how, babies, passes, moves))
+    linear_transformation::baby_passes(how, babies, passes, moves).into()
 }
 
 #[unsafe(no_mangle)]
@@ -98,6 +98,5 @@ pub extern "C" fn sibukyaran_giant_tree(
     ensures { TreeTold (rotations_of rotations baby_step giant_step slots) giants.now leaves.old leaves.new levels.old levels.new records.old records.new result }
 {
     let how = crate::kinds::rotations_of(rotations, baby_step, giant_step, slots);
-    let a = linear_transformation::giant_tree(how, giants, leaves, levels, records);
-    crate::tree_of(a)
+    linear_transformation::giant_tree(how, giants, leaves, levels, records).into()
 }

@@ -6,7 +6,7 @@ ghost use Rattle.ring.specs.Answers.{numbers, answered};
 ghost use Rattle.ring.specs.Divisors.{gcd_of, lcm_of};
 ghost use Rattle.ring.specs.Periods.{min_period};
 ghost use Rattle.ring.specs.Calls.{lcm_refusal, period_refusal, MultiplyAdd};
-ghost use Rattle.sibukyaran.specs.Numbers.{told};
+ghost use Rattle.sibukyaran.specs.Numbers.{told, CodeTold};
 
 #[unsafe(no_mangle)]
 pub extern "C" fn sibukyaran_wrapping_mul(a: u64, b: u64) -> u64
@@ -17,9 +17,9 @@ pub extern "C" fn sibukyaran_wrapping_mul(a: u64, b: u64) -> u64
 
 #[unsafe(no_mangle)]
 pub extern "C" fn sibukyaran_multiply_add_into(a: &[u64], b: &[u64], out: &mut [u64]) -> u32
-    ensures { MultiplyAdd a.now b.now out.old out.new result }
+    ensures { CodeTold (MultiplyAdd a.now b.now out.old out.new) result }
 {
-    ring::multiply_add_into(a, b, out)
+    crate::code_of(ring::multiply_add_into(a, b, out))
 }
 
 #[unsafe(no_mangle)]
@@ -40,12 +40,12 @@ pub extern "C" fn sibukyaran_gcd(a: u32, b: u32) -> u32
 pub extern "C" fn sibukyaran_period_lcm(a: usize, b: usize) -> crate::Numbers
     ensures { told result ≡ numbers (answered (lcm_refusal a b) (lcm_of a b)) }
 {
-    crate::numbers_of(ring::period_lcm(a, b))
+    ring::period_lcm(a, b).into()
 }
 
 #[unsafe(no_mangle)]
 pub extern "C" fn sibukyaran_min_period(v: &[u64]) -> crate::Numbers
     ensures { told result ≡ numbers (answered (period_refusal v.now) (min_period v.now)) }
 {
-    crate::numbers_of(ring::min_period(v))
+    ring::min_period(v).into()
 }

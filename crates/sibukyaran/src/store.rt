@@ -1,18 +1,19 @@
 // The map store and the plain run. A map is its slots, its number of pairs, its pairs and its values.
-ghost use Rattle.std.specs.Prelude.{◌≡◌, eqb, ◌≤◌, length};
-ghost use Rattle.ring.specs.Vectors.{in_front};
+ghost use Rattle.std.specs.Prelude.{◌≡◌, ◌==◌, length};
 ghost use Rattle.ring.specs.Answers.{numbers, answered};
 ghost use Rattle.diagonals.specs.Maps.{view};
-ghost use Rattle.diagonals.specs.Calls.{new_refusal, map_refusal, gotten, truths, tested, Judged, Indexes, SetWritten, SlotMapWritten, ShrinkWritten, TransposeWritten, Rotated};
+ghost use Rattle.diagonals.specs.Calls.{new_refusal, map_refusal, gotten, truths, Judged, Indexes, SetWritten, SlotMapWritten, ShrinkWritten, TransposeWritten, Rotated};
 ghost use Rattle.runs.specs.Calls.{Evaluated};
 ghost use Rattle.sibukyaran.specs.Kinds.{strategy_of};
-ghost use Rattle.sibukyaran.specs.Numbers.{told, told_truth, Told, GetTold};
+ghost use Rattle.sibukyaran.specs.Numbers.{told, told_truth, Told, CodeTold, GotInto};
+
+use ring::Refusal;
 
 #[unsafe(no_mangle)]
 pub extern "C" fn sibukyaran_new(slots: usize) -> crate::Numbers
     ensures { told result ≡ numbers (answered (new_refusal slots) 0) }
 {
-    crate::numbers_of(diagonals::new(slots))
+    diagonals::new(slots).into()
 }
 
 #[unsafe(no_mangle)]
@@ -22,9 +23,9 @@ pub extern "C" fn sibukyaran_map_refusal(
     pairs: &[u32],
     values: &[u64],
 ) -> u32
-    ensures { Judged slots count pairs.now values.now result }
+    ensures { CodeTold (Judged slots count pairs.now values.now) result }
 {
-    diagonals::map_refusal(slots, count, pairs, values)
+    crate::code_of(diagonals::check_map(slots, count, pairs, values))
 }
 
 #[unsafe(no_mangle)]
@@ -34,9 +35,9 @@ pub extern "C" fn sibukyaran_is_empty(
     pairs: &[u32],
     values: &[u64],
 ) -> crate::Truth
-    ensures { told_truth result ≡ truths (tested (map_refusal slots count pairs.now values.now) (eqb (length (view count pairs.now values.now)) 0)) }
+    ensures { told_truth result ≡ truths (answered (map_refusal slots count pairs.now values.now) (length (view count pairs.now values.now) == 0)) }
 {
-    crate::truth_of(diagonals::is_empty(slots, count, pairs, values))
+    diagonals::is_empty(slots, count, pairs, values).into()
 }
 
 #[unsafe(no_mangle)]
@@ -49,7 +50,7 @@ pub extern "C" fn sibukyaran_indexes(
 ) -> crate::Numbers
     ensures { Told (Indexes slots count pairs.now values.now out.old out.new) result }
 {
-    crate::numbers_of(diagonals::indexes(slots, count, pairs, values, out))
+    diagonals::indexes(slots, count, pairs, values, out).into()
 }
 
 #[unsafe(no_mangle)]
@@ -62,7 +63,7 @@ pub extern "C" fn sibukyaran_period(
 ) -> crate::Numbers
     ensures { told result ≡ numbers (answered (map_refusal slots count pairs.now values.now) (length (gotten slots count pairs.now values.now index))) }
 {
-    crate::numbers_of(diagonals::period(slots, count, pairs, values, index))
+    diagonals::period(slots, count, pairs, values, index).into()
 }
 
 #[unsafe(no_mangle)]
@@ -76,7 +77,7 @@ pub extern "C" fn sibukyaran_set(
 ) -> crate::Numbers
     ensures { Told (SetWritten slots count pairs.old pairs.new values.old values.new index new.now) result }
 {
-    crate::numbers_of(diagonals::set(slots, count, pairs, values, index, new))
+    diagonals::set(slots, count, pairs, values, index, new).into()
 }
 
 #[unsafe(no_mangle)]
@@ -91,14 +92,14 @@ pub extern "C" fn sibukyaran_from_slot_map(
 ) -> crate::Numbers
     ensures { Told (SlotMapWritten slots period is.now js.now ws.now pairs.old pairs.new values.old values.new) result }
 {
-    crate::numbers_of(diagonals::from_slot_map(slots, period, is, js, ws, pairs, values))
+    diagonals::from_slot_map(slots, period, is, js, ws, pairs, values).into()
 }
 
 #[unsafe(no_mangle)]
 pub extern "C" fn sibukyaran_rotate_slots_into(src: &[u64], k: i64, out: &mut [u64]) -> u32
-    ensures { Rotated src.now k out.old out.new result }
+    ensures { CodeTold (Rotated src.now k out.old out.new) result }
 {
-    diagonals::rotate_slots_into(src, k, out)
+    crate::code_of(diagonals::rotate_slots_into(src, k, out))
 }
 
 #[unsafe(no_mangle)]
@@ -112,7 +113,7 @@ pub extern "C" fn sibukyaran_shrink_period(
 ) -> crate::Numbers
     ensures { Told (ShrinkWritten slots count pairs.now values.now pairs_out.old pairs_out.new values_out.old values_out.new) result }
 {
-    crate::numbers_of(diagonals::shrink_period(slots, count, pairs, values, pairs_out, values_out))
+    diagonals::shrink_period(slots, count, pairs, values, pairs_out, values_out).into()
 }
 
 #[unsafe(no_mangle)]
@@ -126,7 +127,7 @@ pub extern "C" fn sibukyaran_transpose(
 ) -> crate::Numbers
     ensures { Told (TransposeWritten slots count pairs.now values.now pairs_out.old pairs_out.new values_out.old values_out.new) result }
 {
-    crate::numbers_of(diagonals::transpose(slots, count, pairs, values, pairs_out, values_out))
+    diagonals::transpose(slots, count, pairs, values, pairs_out, values_out).into()
 }
 
 #[unsafe(no_mangle)]
@@ -140,22 +141,34 @@ pub extern "C" fn sibukyaran_evaluate(
     giant_step: usize,
     out: &mut [u64],
 ) -> u32
-    ensures { Evaluated slots count pairs.now values.now input.now (strategy_of strategy giant_step) out.old out.new result }
+    ensures { CodeTold (Evaluated slots count pairs.now values.now input.now (strategy_of strategy giant_step) out.old out.new) result }
 {
     let how = crate::kinds::strategy_of(strategy, giant_step);
-    runs::evaluate(slots, count, pairs, values, input, how, out)
+    crate::code_of(runs::evaluate(slots, count, pairs, values, input, how, out))
 }
 
-fn copy_front(src: &[u64], out: &mut [u64])
-    requires { length src.now ≤ length out.old }
-    ensures { out.new ≡ in_front src.now out.old }
+// The stretch that `get` hands back, in front of out.
+fn get_into(
+    slots: usize,
+    count: usize,
+    pairs: &[u32],
+    values: &[u64],
+    index: i64,
+    out: &mut [u64],
+) -> Result<usize, Refusal>
+    ensures { GotInto slots count pairs.now values.now index out.old out.new result }
 {
-    for i in 0..src.len() {
-        out[i] = src[i];
+    diagonals::check_map(slots, count, pairs, values)?;
+    let stretch = diagonals::get(slots, count, pairs, values, index);
+    let n = stretch.len();
+    if out.len() < n {
+        return Err(Refusal::Room);
     }
+    out[..n].copy_from_slice(stretch);
+    Ok(n)
 }
 
-// The stretch that `get` hands back, in front of out: a C function cannot return a part of a slice.
+// A C function cannot return a part of a slice, as `get` does.
 #[unsafe(no_mangle)]
 pub extern "C" fn sibukyaran_get_into(
     slots: usize,
@@ -165,25 +178,7 @@ pub extern "C" fn sibukyaran_get_into(
     index: i64,
     out: &mut [u64],
 ) -> crate::Numbers
-    ensures { GetTold slots count pairs.now values.now index out.old out.new result }
+    ensures { Told (GotInto slots count pairs.now values.now index out.old out.new) result }
 {
-    let code = diagonals::map_refusal(slots, count, pairs, values);
-    if code != 0 {
-        return crate::Numbers {
-            refusal: code,
-            value: 0,
-        };
-    }
-    let stretch = diagonals::get(slots, count, pairs, values, index);
-    if out.len() < stretch.len() {
-        return crate::Numbers {
-            refusal: 12,
-            value: 0,
-        };
-    }
-    copy_front(stretch, out);
-    crate::Numbers {
-        refusal: 0,
-        value: stretch.len(),
-    }
+    get_into(slots, count, pairs, values, index, out).into()
 }

@@ -1,45 +1,44 @@
 -- Laws of a change that sets a diagonal in place: where its pair goes, the words that are written, and what the call answers.
 -- Assumes nothing.
-use Rattle.std.specs.Prelude.{◌≡◌, ℕ, suc, ◌+◌, ◌-◌, ◌^◌, ◌<◌, ◌≤◌, Bool, true, false, List, ◌∷◌, ◌++◌, length, take, drop, ℤ, ◌≢◌}
-use Rattle.std.proofs.Common.{sym, ◌∙◌, ⊎_elim, suc-ne-zero, eq-or-lt_of_le, lt_of_not-le, arith, length-append, length-drop, drop_of_length-le, length-take-le}
+use Rattle.std.specs.Prelude.{◌≡◌, ℕ, suc, ◌+◌, ◌-◌, ◌<◌, ◌≤◌, Bool, false, List, ◌∷◌, ◌++◌, length, take, drop, ℤ, Result, Ok, Err, None}
+use Rattle.std.proofs.Common.{sym, ◌∙◌, ⊎_elim, eq-or-lt_of_le, lt_of_not-le, arith, length-append, length-drop, drop_of_length-le, length-take-le, ap}
 use Rattle.std.proofs.Math.Path.{ap}
 use Rattle.std.proofs.Math.Decide.{dec_le}
 use Rattle.std.proofs.Math.Seq.{drop-cons}
 use Rattle.ring.specs.Vectors.{in_front}
 use Rattle.ring.specs.Residues.{residue_of}
 use Rattle.ring.specs.Refusals.{first_refusal, no_period}
-use Rattle.ring.specs.declared.Answer.{Answer}
-use Rattle.ring.specs.declared.Answer.TheVariants.{Refused, Is}
+use Rattle.ring.specs.Laws.Refusals.{first_later}
+use Rattle.ring.specs.declared.refusal.Refusal.{Refusal}
+use Rattle.ring.specs.declared.refusal.Refusal.TheVariants.{Period}
+use Rattle.ring.specs.Answers.{judged}
 use Rattle.ring.specs.Laws.Vectors.{get_or_tabulate}
 use Rattle.diagonals.specs.declared.setting.Change.{Change}
 use Rattle.diagonals.specs.Maps.{Diagonal, pair_room, offset_at, pair_of, pair_words, value_words, start_at, diagonal_at, view, WellFormed}
 use Rattle.diagonals.specs.Laws.Pairs.{room_add, room_mono}
 use Rattle.diagonals.specs.Setting.{placed}
-use Rattle.diagonals.specs.Calls.{Judged, map_room, RoomJudged, MapWritten, set_map, set_refusal, SetWritten}
-use Rattle.diagonals.specs.Steps.Setting.{InOrder, Changed, Spliceable, spliced}
+use Rattle.diagonals.specs.Calls.{map_refusals, map_refusal, map_room, RoomJudged, MapWritten, set_map, set_refusal}
+use Rattle.diagonals.specs.Steps.Setting.{Changed, Spliceable, spliced}
 use Rattle.diagonals.specs.Steps.Reading.{Placed}
-use Rattle.diagonals.specs.Laws.Maps.{start_mono, values_inside, count_low, length_view, each_view}
-use Rattle.diagonals.specs.Laws.Calls.{then_refused, then_later, room_of, written_refused, written_accepted}
+use Rattle.diagonals.specs.Laws.Maps.{start_mono, values_inside, length_view, each_view}
+use Rattle.diagonals.specs.Laws.Calls.{stored_means, room_of, written_refused, written_accepted, judged_none, judged_some}
 use Rattle.diagonals.specs.Laws.Words.{view_cut, values_view, pairs_view, values_rest, pairs_rest, value_words_append, pair_words_append}
 use Rattle.diagonals.specs.Laws.Setting.{Side, side, below, equal, above, placed_equal, placed_above, placed_append}
 
 -- ---- the first pair that is not below k, and the first above k
 
-module _ {count : ℕ} {pairs : List ℕ} {k index start : ℕ} (p : Placed count pairs k index start) where
+module _ {count : ℕ} {pairs : List ℕ} {k index : ℕ} (p : Placed count pairs k index) where
   -- its values start inside
-  pub start_within : start ≤ start_at pairs count
-  start_within = omega (arith, p.start_is, start_mono pairs index count p.inside)
+  pub start_within : start_at pairs index ≤ start_at pairs count
+  start_within = start_mono pairs index count p.inside
 
-  module _ {behind from : ℕ} (q : Placed count pairs (k + 1) behind from) where
+  module _ {behind : ℕ} (q : Placed count pairs (k + 1) behind) where
     pub place_order : index ≤ behind
     place_order = by_dec (dec_le index behind)
       where
         by_dec : Dec (index ≤ behind) → index ≤ behind
         by_dec (yes l) = l
         by_dec (no n) = let l : behind < index = lt_of_not-le n in omega (arith, p.before behind l, q.here (omega (arith, p.inside)), p.inside)
-
-    pub start_order : start ≤ from
-    start_order = omega (arith, p.start_is, q.start_is, start_mono pairs index behind place_order)
 
     -- at most one pair is at k
     pub place_next : ((i j : ℕ) → i < j → j < count → offset_at pairs i < offset_at pairs j) → behind ≤ index + 1
@@ -52,7 +51,7 @@ module _ {count : ℕ} {pairs : List ℕ} {k index start : ℕ} (p : Placed coun
             omega (arith, p.here (omega (arith, q.inside)), q.before (index + 1) l, rising index (index + 1) (omega arith) (omega (arith, q.inside)))
 
 -- the map with `vs` at k, by the two places
-module _ {slots count : ℕ} {pairs values : List ℕ} (w : WellFormed slots count pairs values) {k index start behind from : ℕ} (p : Placed count pairs k index start) (q : Placed count pairs (k + 1) behind from) (vs : List ℕ) where
+module _ {slots count : ℕ} {pairs values : List ℕ} (w : WellFormed slots count pairs values) {k index behind : ℕ} (p : Placed count pairs k index) (q : Placed count pairs (k + 1) behind) (vs : List ℕ) where
   abbrev old : List Diagonal
   old = view count pairs values
 
@@ -104,12 +103,6 @@ module _ {slots count : ℕ} {pairs values : List ℕ} (w : WellFormed slots cou
   new_is : new ≡ view r.index pairs values ++ (record { offset = k; values = vs } ∷ drop r.behind (view count pairs values))
   new_is = placed_cut w h.here h.above vs
 
-  start_is : r.start ≡ start_at pairs r.index
-  start_is = h.here.start_is
-
-  from_is : r.from ≡ start_at pairs r.behind
-  from_is = h.above.start_is
-
   -- the number of pairs
   pub length_new : length new ≡ r.pairs
   length_new =
@@ -134,7 +127,7 @@ module _ {slots count : ℕ} {pairs values : List ℕ} (w : WellFormed slots cou
       ∙ value_words_append (view r.index pairs values) _
       ∙ ap (λ (t : List ℕ). t ++ (vs ++ value_words (drop r.behind (view count pairs values)))) (values_view pairs values r.index)
       ∙ ap (λ (t : List ℕ). take (start_at pairs r.index) values ++ (vs ++ t)) (values_rest pairs values r.behind count h.above.inside)
-      ∙ rw (start_is, from_is, h.end_is)
+      ∙ rw (h.start_is, h.from_is, h.end_is)
 
   pub set_pairs : spliced (pair_room r.index) (pair_room r.behind) (pair_room count) (pair_of (record { offset = k; values = vs })) pairs ≡ in_front (pair_words new) pairs
   unfolding spliced
@@ -147,7 +140,7 @@ module _ {slots count : ℕ} {pairs values : List ℕ} (w : WellFormed slots cou
   -- the number of values
   pub length_new_values : length (value_words new) ≡ r.values
   length_new_values =
-      let a : r.start ≤ length values = omega (arith, start_within h.here, values_inside w) in
+      let a : r.start ≤ length values = omega (arith, h.start_is, start_within h.here, values_inside w) in
       let b : r.end - r.from ≤ length (drop r.from values) = omega (arith, length-drop r.from values, h.end_is, values_inside w) in
       let moved : List ℕ = take (r.end - r.from) (drop r.from values) in
       ap length new_values
@@ -163,13 +156,9 @@ module _ {slots count : ℕ} {pairs values : List ℕ} (w : WellFormed slots cou
       record { order = room_mono r.behind count h.above.inside; inside = w.pairs_inside; fits = omega arith }
 
   pub values_fit : r.values ≤ length values → Spliceable r.start r.from r.end n (length values)
-  values_fit l = record { order = omega (arith, start_within h.above, h.end_is); inside = omega (arith, h.end_is, values_inside w); fits = omega (arith, h.values_is) }
+  values_fit l = record { order = omega (arith, h.from_is, start_within h.above, h.end_is); inside = omega (arith, h.end_is, values_inside w); fits = omega (arith, h.values_is) }
 
 -- ---- the call
-
--- a walk may add up the lengths of a well-formed map, whose values are in a buffer
-pub in_order_lem : {slots count : ℕ} {pairs values : List ℕ} → WellFormed slots count pairs values → slots ≤ 65536 → length values ≤ 2 ^ 63 → InOrder count pairs
-in_order_lem w s l = record { inside = w.pairs_inside; few = omega (arith, count_low w); small = omega (arith, values_inside w); rising = w.rising }
 
 -- past the refusals of the map and of the length of the new values: k is the offset, r the change, and the room decides
 pub record Decided (slots count : ℕ) (pairs values : List ℕ) (index : ℤ) (vs : List ℕ) (k : ℕ) (r : Change) : Type 0 where
@@ -178,38 +167,33 @@ pub record Decided (slots count : ℕ) (pairs values : List ℕ) (index : ℤ) (
   pub change : Changed count pairs (residue_of index slots) (length vs) r
   pub refusal : set_refusal slots count pairs values index vs ≡ first_refusal (map_room (set_map slots count pairs values index vs) pairs values)
 
-module _ {slots count : ℕ} {pairs values : List ℕ} {code : ℕ} (j : Judged slots count pairs values code) (index : ℤ) (vs : List ℕ) where
-  abbrev later : List (Bool × ℕ)
-  later = (no_period slots (length vs), 4) ∷ map_room (set_map slots count pairs values index vs) pairs values
+module _ (slots count : ℕ) (pairs values : List ℕ) (index : ℤ) (vs : List ℕ) where
+  abbrev later : List (Bool × Refusal)
+  later = (no_period slots (length vs), Period) ∷ map_room (set_map slots count pairs values index vs) pairs values
 
-  pub refused_map : (code ≢ 0) → SetWritten slots count pairs pairs values values index vs (Refused code)
-  refused_map h = written_refused (then_refused j later h) h
-
-  pub refused_period : code ≡ 0 → no_period slots (length vs) ≡ true → SetWritten slots count pairs pairs values values index vs (Refused 4)
-  refused_period z p = written_refused (sym (then_later j later z ∙ rw p)) (suc-ne-zero 3)
-
-  pub decided : code ≡ 0 → no_period slots (length vs) ≡ false → {k : ℕ} {r : Change} → k ≡ residue_of index slots → Changed count pairs k (length vs) r → Decided slots count pairs values index vs k r
-  decided z p e h = record { offset_is = e; formed = j.formed z; change = rw (← e) h; refusal = then_later j later z ∙ rw p }
+  module _ (z : map_refusal slots count pairs values ≡ None) where
+    pub decided : no_period slots (length vs) ≡ false → {k : ℕ} {r : Change} → k ≡ residue_of index slots → Changed count pairs k (length vs) r → Decided slots count pairs values index vs k r
+    decided p e h = record { offset_is = e; formed = (stored_means slots count pairs values z).1; change = rw (← e) h; refusal = first_later (map_refusals slots count pairs values) later z ∙ rw p }
 
 module _ {slots count : ℕ} {pairs values : List ℕ} {index : ℤ} {vs : List ℕ} {k : ℕ} {r : Change} (d : Decided slots count pairs values index vs k r) where
   abbrev ds : List Diagonal
   ds = set_map slots count pairs values index vs
 
-  abbrev Written : List ℕ → List ℕ → Answer → Type 0
+  abbrev Written : List ℕ → List ℕ → Result ℕ Refusal → Type 0
   Written pairs₁ values₁ = MapWritten (set_refusal slots count pairs values index vs) ds pairs pairs₁ values values₁
 
-  room_is : {x : ℕ} → RoomJudged r.pairs r.values (length pairs) (length values) x → x ≡ set_refusal slots count pairs values index vs
-  room_is j = room_of ds pairs values (sym (length_new d.formed vs d.change)) (sym (length_new_values d.formed vs d.change)) j ∙ sym d.refusal
+  room_is : {x : Result Unit Refusal} → RoomJudged r.pairs r.values (length pairs) (length values) x → x ≡ judged (set_refusal slots count pairs values index vs)
+  room_is j = room_of ds pairs values (sym (length_new d.formed vs d.change)) (sym (length_new_values d.formed vs d.change)) j ∙ ap judged (sym d.refusal)
 
-  pub refused_room : {x : ℕ} → RoomJudged r.pairs r.values (length pairs) (length values) x → (x ≢ 0) → Written pairs values (Refused x)
-  refused_room j n = written_refused (room_is j) n
+  pub refused_room : {x : Refusal} {room : Result Unit Refusal} → RoomJudged r.pairs r.values (length pairs) (length values) room → room ≡ Err x → Written pairs values (Err x)
+  refused_room j n = written_refused (judged_some (room_is j) n)
 
   -- the spliced words are those of the map
-  pub accepted : {x : ℕ} {pairs₁ values₁ : List ℕ} → RoomJudged r.pairs r.values (length pairs) (length values) x → x ≡ 0
-      → pairs₁ ≡ spliced (pair_room r.index) (pair_room r.behind) (pair_room count) (pair_of (record { offset = k; values = vs })) pairs → values₁ ≡ spliced r.start r.from r.end vs values → Written pairs₁ values₁ (Is r.pairs)
+  pub accepted : {x : Result Unit Refusal} {pairs₁ values₁ : List ℕ} → RoomJudged r.pairs r.values (length pairs) (length values) x → x ≡ Ok tt
+      → pairs₁ ≡ spliced (pair_room r.index) (pair_room r.behind) (pair_room count) (pair_of (record { offset = k; values = vs })) pairs → values₁ ≡ spliced r.start r.from r.end vs values → Written pairs₁ values₁ (Ok r.pairs)
   accepted j z a b =
       written_accepted
-      (sym (room_is j) ∙ z)
+      (judged_none (room_is j) z)
       (sym (length_new d.formed vs d.change))
       (rw d.offset_is at a ∙ set_pairs d.formed vs d.change)
       (b ∙ set_values d.formed vs d.change)

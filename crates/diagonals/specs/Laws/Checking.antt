@@ -112,3 +112,7 @@ module _ {slots count : ℕ} {pairs : List ℕ} {total next i : ℕ} (c : Checki
       by : (b : Bool) → nat_le (start_at pairs count) (length values) ≡ b → b ≡ every (formed_at slots pairs values) count
       by true e = sym (all_inside (leb-true _ _ e))
       by false e = sym (last_outside count refl (leb-false _ _ e))
+
+-- a length that is a divisor of slots passes
+pub divisor_passes : {slots last len : ℕ} → Divisor slots last → len ≡ last → (nat_le 1 len && divides len slots) ≡ true
+divisor_passes d e = rw e (both (le-leb _ _ d.some) (divides_yes _ _ d.divides))

@@ -2,7 +2,7 @@
 -- Assumes nothing.
 use Rattle.std.specs.Prelude.{◌≡◌, ℕ, zero, suc, ◌+◌, ◌<◌, ◌≤◌, Bool, true, ◌&&◌, ◌⊎◌, List, [], ◌∷◌, ◌++◌, length, take, drop, ◌==◌, ◌≢◌, nat_le, nat_lt, refl}
 use Rattle.std.specs.Int.{◌∣◌}
-use Rattle.std.proofs.Common.{sym, ◌∙◌, inl, inr, eq-or-lt_of_le, not-suc-le-zero, le_of_suc-le-suc, le_of_eq, le_trans, add-one, arith, eq-eqb, ne_eqb, eqb-true, lt-ltb, le-leb, ltb-true, leb-true, length-take, length-drop}
+use Rattle.std.proofs.Common.{◌∙◌, inl, inr, eq-or-lt_of_le, not-suc-le-zero, le_of_suc-le-suc, le_of_eq, le_trans, add-one, arith, eq-eqb, ne_eqb, eqb-true, lt-ltb, le-leb, ltb-true, leb-true, length-take, length-drop}
 use Rattle.std.proofs.Math.Path.{ap}
 use Rattle.std.proofs.Math.Logic.{⊎_elim}
 use Rattle.ring.specs.Vectors.{tabulate}
@@ -180,7 +180,7 @@ module _ (k : ℕ) where
       rw (ne_eqb _ k (h 0 (omega arith))) (stretch_found n (λ j. f (suc j)) i (le_of_suc-le-suc l) e (λ j m. h (suc j) (omega arith)))
 
 -- by the first pair whose offset is not below k
-module _ {slots count : ℕ} {pairs values : List ℕ} (w : WellFormed slots count pairs values) {k index start : ℕ} (p : Placed count pairs k index start) where
+module _ {slots count : ℕ} {pairs values : List ℕ} (w : WellFormed slots count pairs values) {k index : ℕ} (p : Placed count pairs k index) where
   pub placed_none : count ≤ index → stretch (view count pairs values) k ≡ []
   unfolding view
   placed_none l = stretch_none k count (diagonal_at pairs values) (λ j m e. omega (arith, p.before j (omega arith)))
@@ -200,9 +200,13 @@ module _ {slots count : ℕ} {pairs values : List ℕ} (w : WellFormed slots cou
       by_order j m e (inl q) = omega (arith, p.before j q)
       by_order j m e (inr q) = after j m e q
 
-  pub placed_here : index < count → offset_at pairs index ≡ k → stretch (view count pairs values) k ≡ take (length_at pairs index) (drop start values)
+  pub placed_here : index < count → offset_at pairs index ≡ k → stretch (view count pairs values) k ≡ take (length_at pairs index) (drop (start_at pairs index) values)
   unfolding view
-  placed_here l e = stretch_found k count (diagonal_at pairs values) index l e (λ j m q. omega (arith, p.before j m)) ∙ ap (λ (x : ℕ). take (length_at pairs index) (drop x values)) (sym p.start_is)
+  placed_here l e = stretch_found k count (diagonal_at pairs values) index l e (λ j m q. omega (arith, p.before j m))
 
-  pub placed_end : index < count → start + length_at pairs index ≤ length values
-  placed_end l = rw p.start_is (values_end w index l)
+  -- of a pair that is there, the values are too
+  pub placed_low : (index ≢ count) → index < count
+  placed_low n = omega (arith, p.inside, n)
+
+  pub placed_fits : {start len : ℕ} → (index ≢ count) → start ≡ start_at pairs index → len ≡ length_at pairs index → start + len ≤ length values
+  placed_fits n s l = rw (s, l) (values_end w index (placed_low n))

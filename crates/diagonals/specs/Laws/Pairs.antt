@@ -110,16 +110,6 @@ pub pair_at_lem : (pairs : List ℕ) (i : ℕ) → pair_room (i + 1) ≤ length 
 unfolding pair_room offset_at length_at
 pair_at_lem pairs i h = rw (add-one (2 * i), drop-cons pairs (2 * i) 0 (omega arith), drop-cons pairs (suc (2 * i)) 0 (omega arith))
 
--- the pairs before a place are those of the front
-module _ (pairs : List ℕ) (n i : ℕ) (l : i < n) where
-  pub offset_take : offset_at (take (pair_room n) pairs) i ≡ offset_at pairs i
-  unfolding offset_at pair_room
-  offset_take = get_or-take (2 * n) pairs (2 * i) 0 (omega arith)
-
-  pub length_take_pairs : length_at (take (pair_room n) pairs) i ≡ length_at pairs i
-  unfolding length_at pair_room
-  length_take_pairs = get_or-take (2 * n) pairs (2 * i + 1) 0 (omega arith)
-
 -- behind the pairs that stand in front
 pub offset_old : (front old : List ℕ) (i : ℕ) → length front ≡ pair_room i → offset_at (in_front front old) i ≡ offset_at old i
 unfolding offset_at pair_room
@@ -133,3 +123,13 @@ put_same pairs i h =
     ∙ ap (λ (ws : List ℕ). take (pair_room i) pairs ++ (take (pair_room 1) (drop (pair_room i) pairs) ++ ws)) (ap (λ (n : ℕ). drop n pairs) (room_add i 1) ∙ sym (drop-drop (pair_room 1) (pair_room i) pairs))
     ∙ ap (λ (ws : List ℕ). take (pair_room i) pairs ++ ws) (take-append-drop (pair_room 1) (drop (pair_room i) pairs))
     ∙ take-append-drop (pair_room i) pairs
+
+-- the pairs before a place are those of the front
+module _ (pairs : List ℕ) (n i : ℕ) (l : i < n) where
+  pub offset_take : offset_at (take (pair_room n) pairs) i ≡ offset_at pairs i
+  unfolding offset_at pair_room
+  offset_take = get_or-take (2 * n) pairs (2 * i) 0 (omega arith)
+
+  pub length_take_pairs : length_at (take (pair_room n) pairs) i ≡ length_at pairs i
+  unfolding length_at pair_room
+  length_take_pairs = get_or-take (2 * n) pairs (2 * i + 1) 0 (omega arith)

@@ -1,10 +1,11 @@
 -- Laws of reading: a map that a call wrote is accepted by the next call, which sees that map; reading after setting.
 -- Assumes nothing.
-use Rattle.std.specs.Prelude.{◌≡◌, ℕ, ◌<◌, true, false, not, List, [], ◌∷◌, ◌++◌, length, ℤ, ◌≢◌}
-use Rattle.std.proofs.Common.{sym, ap, ◌∙◌, suc-ne-zero, arith}
+use Rattle.std.specs.Prelude.{◌≡◌, ℕ, ◌<◌, true, false, not, List, [], ◌∷◌, ◌++◌, length, ℤ, ◌≢◌, None}
+use Rattle.std.proofs.Common.{sym, ap, ◌∙◌, arith}
 use Rattle.std.proofs.lemmas.Bool.{eqb-false, not-false}
 use Rattle.ring.specs.Vectors.{in_front}
 use Rattle.ring.specs.Residues.{residue_of}
+use Rattle.ring.specs.declared.refusal.Refusal.TheVariants.{Period}
 use Rattle.ring.specs.Refusals.{first_refusal, outside, no_period, Range}
 use Rattle.ring.specs.Laws.Residues.{residue_lt}
 use Rattle.ring.specs.Laws.Divisors.{divides_dvd}
@@ -25,9 +26,9 @@ period_formed slots k vs l h =
 
 -- ---- a map that is accepted
 
-module _ (slots count : ℕ) (pairs values : List ℕ) (ok : map_refusal slots count pairs values ≡ 0) where
+module _ (slots count : ℕ) (pairs values : List ℕ) (ok : map_refusal slots count pairs values ≡ None) where
   accepted_tests : (outside slots ≡ false) × ((not (well_formed slots count pairs values) ≡ false) × Unit {0})
-  accepted_tests = none_holds (map_refusals slots count pairs values) (suc-ne-zero 0, (suc-ne-zero 1, tt)) ok
+  accepted_tests = none_holds (map_refusals slots count pairs values) ok
 
   pub accepted_range : Range slots
   accepted_range = let e = inside slots accepted_tests.0 in record { low = e.0; high = e.1 }
@@ -38,14 +39,14 @@ module _ (slots count : ℕ) (pairs values : List ℕ) (ok : map_refusal slots c
 -- ---- a map that was written
 
 -- a map that stands in front of buffers
-module _ (slots : ℕ) (ds : List Diagonal) (pairs values : List ℕ) (range : outside slots ≡ false) (f : FormedMap slots ds) (room : first_refusal (map_room ds pairs values) ≡ 0) where
+module _ (slots : ℕ) (ds : List Diagonal) (pairs values : List ℕ) (range : outside slots ≡ false) (f : FormedMap slots ds) (room : first_refusal (map_room ds pairs values) ≡ None) where
   written_formed : well_formed slots (length ds) (in_front (pair_words ds) pairs) (in_front (value_words ds) values) ≡ true
   written_formed =
       let e = room_fits ds pairs values room in
       means_formed slots (length ds) _ _ (words_formed slots ds pairs values f e.0 e.1)
 
   -- the next call does not refuse it
-  pub written_not_refused : map_refusal slots (length ds) (in_front (pair_words ds) pairs) (in_front (value_words ds) values) ≡ 0
+  pub written_not_refused : map_refusal slots (length ds) (in_front (pair_words ds) pairs) (in_front (value_words ds) values) ≡ None
   written_not_refused = rw (range, written_formed)
 
   -- and reads what was written
@@ -53,18 +54,18 @@ module _ (slots : ℕ) (ds : List Diagonal) (pairs values : List ℕ) (range : o
   written_gotten index = rw (written_not_refused, view_in_front ds pairs values)
 
 -- after an accepted `set` of new values at an index
-module _ (slots count : ℕ) (pairs values : List ℕ) (index : ℤ) (new : List ℕ) (ok : set_refusal slots count pairs values index new ≡ 0) where
+module _ (slots count : ℕ) (pairs values : List ℕ) (index : ℤ) (new : List ℕ) (ok : set_refusal slots count pairs values index new ≡ None) where
   abbrev ds : List Diagonal
   ds = set_map slots count pairs values index new
 
-  accepted : (first_refusal (map_refusals slots count pairs values ++ (no_period slots (length new), 4) ∷ []) ≡ 0) × (first_refusal (map_room ds pairs values) ≡ 0)
-  accepted = none_of_both (map_refusals slots count pairs values ++ (no_period slots (length new), 4) ∷ []) (map_room ds pairs values) (suc-ne-zero 0, (suc-ne-zero 1, (suc-ne-zero 3, tt))) ok
+  accepted : (first_refusal (map_refusals slots count pairs values ++ (no_period slots (length new), Period) ∷ []) ≡ None) × (first_refusal (map_room ds pairs values) ≡ None)
+  accepted = none_of_both (map_refusals slots count pairs values ++ (no_period slots (length new), Period) ∷ []) (map_room ds pairs values) ok
 
   none : (outside slots ≡ false) × ((not (well_formed slots count pairs values) ≡ false) × ((no_period slots (length new) ≡ false) × Unit {0}))
   none =
       none_holds
-      ((outside slots, 1) ∷ (not (well_formed slots count pairs values), 2) ∷ (no_period slots (length new), 4) ∷ [])
-      (suc-ne-zero 0, (suc-ne-zero 1, (suc-ne-zero 3, tt))) accepted.0
+      (map_refusals slots count pairs values ++ (no_period slots (length new), Period) ∷ [])
+      accepted.0
 
   formed : WellFormed slots count pairs values
   formed = formed_means slots count pairs values (not-false _ none.1.0)

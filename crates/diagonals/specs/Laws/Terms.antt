@@ -1,8 +1,8 @@
 -- Terms brought one after the other, by whatever loops: their marks, and their sums in the values of a map of zeros,
 -- which make it the slot map.
 -- Assumes nothing.
-use Rattle.std.specs.Prelude.{◌≡◌, ℕ, zero, suc, ◌+◌, ◌*◌, ◌/◌, ◌%◌, ◌<◌, ◌≤◌, Bool, true, false, not, ◌&&◌, ◌||◌, List, [], ◌∷◌, ◌++◌, length, replicate, ◌==◌, ◌≢◌, nat_eq, nat_lt, slice_index, slice_index_or, slice_set, refl}
-use Rattle.std.proofs.Common.{sym, ap, ◌∙◌, append-nil, not-suc-le-zero, le_of_suc-le-suc, suc-ne-zero, mod-eq_of_lt, add-zero, mul-le-mul_right, div-lt_iff_lt-mul, div-add-mod', arith, eq-eqb, ne_eqb, eqb-true, le-ltb, length-set, get_or-set_same, get_or-set_other}
+use Rattle.std.specs.Prelude.{◌≡◌, ℕ, zero, suc, ◌+◌, ◌*◌, ◌/◌, ◌%◌, ◌<◌, ◌≤◌, Bool, true, false, not, ◌&&◌, ◌||◌, List, [], ◌∷◌, ◌++◌, length, replicate, ◌==◌, ◌≢◌, nat_eq, nat_lt, slice_index, slice_index_or, slice_set, refl, None, Option, Result, Ok, Err}
+use Rattle.std.proofs.Common.{sym, ap, ◌∙◌, append-nil, not-suc-le-zero, le_of_suc-le-suc, mod-eq_of_lt, add-zero, mul-le-mul_right, div-lt_iff_lt-mul, div-add-mod', arith, eq-eqb, ne_eqb, eqb-true, le-ltb, length-set, get_or-set_same, get_or-set_other}
 use Rattle.std.proofs.Math.Bool.{or-true, or-false}
 use Rattle.std.proofs.Math.Nat.{div-eq_of_lt, mul-add-div_right, mul-add-mod_self_right}
 use Rattle.std.proofs.Math.Decide.{ℕ_discrete}
@@ -14,8 +14,8 @@ use Rattle.ring.specs.Vectors.{tabulate, filled}
 use Rattle.ring.specs.Searches.{below}
 use Rattle.ring.specs.Marks.{marks, Unmarked}
 use Rattle.ring.specs.Refusals.{first_refusal}
-use Rattle.ring.specs.declared.Answer.{Answer}
-use Rattle.ring.specs.declared.Answer.TheVariants.{Refused, Is}
+use Rattle.ring.specs.declared.refusal.Refusal.{Refusal}
+use Rattle.ring.specs.declared.refusal.Refusal.TheVariants.{Room}
 use Rattle.ring.specs.Laws.Slots.{addm_comm, zero_addm}
 use Rattle.ring.specs.Laws.Lists.{join_append, sum_by_snoc, sum_by_mod}
 use Rattle.ring.specs.Laws.Vectors.{tabulate_more, length_tabulate, length_filled, filled_front, filled_at, filled_filled, filled_set}
@@ -24,7 +24,7 @@ use Rattle.ring.specs.Laws.Residues.{residue_lt}
 use Rattle.ring.specs.Laws.Below.{below_before, below_at, below_rank, below_ext}
 use Rattle.ring.specs.Divisors.{divides}
 use Rattle.ring.specs.Laws.Refusals.{first_later, first_alone, none_holds, either}
-use Rattle.ring.specs.Laws.Answers.{when_is}
+use Rattle.ring.specs.Laws.Answers.{when_ok}
 use Rattle.diagonals.specs.Maps.{Diagonal, pair_words, value_words}
 use Rattle.diagonals.specs.SlotMaps.{Term, difference, offset_of, reached, weight, rank, slot_map, zero_map}
 use Rattle.diagonals.specs.Calls.{map_room, MapWritten, marked, period_refusals, zero_map_refusal, ZeroMapWritten}
@@ -179,17 +179,17 @@ module _ {m slots period k r : ℕ} {all ts : List Term} {old values places : Li
 -- ---- the map
 
 -- a period that is not refused
-pub period_some : (slots period : ℕ) → first_refusal (period_refusals slots period) ≡ 0 → 0 < period
+pub period_some : (slots period : ℕ) → first_refusal (period_refusals slots period) ≡ None → 0 < period
 period_some slots period j =
-    let h = (none_holds (period_refusals slots period) (suc-ne-zero 0, (suc-ne-zero 3, tt)) j).1.0 in
+    let h = (none_holds (period_refusals slots period) j).1.0 in
     some (eqb-false period 0 (either (period == 0) (not (divides period slots)) h).0)
   where
     some : (period ≢ 0) → 0 < period
     some n = omega (arith, n)
 
 -- zeros laid out at the marks of the terms, under the refusal e of a call in which only the room was left to refuse for
-module _ (m : ℕ) {slots period : ℕ} {ts : List Term} {seen : List Bool} (k : MarksOf slots ts seen) (j : first_refusal (period_refusals slots period) ≡ 0)
-    {e : ℕ} {places₀ places₁ pairs₀ pairs₁ values₀ values₁ : List ℕ} {r : Answer} (fit : slots ≤ length places₀) (q : e ≡ first_refusal (map_room (slot_map m slots period ts) pairs₀ values₀))
+module _ (m : ℕ) {slots period : ℕ} {ts : List Term} {seen : List Bool} (k : MarksOf slots ts seen) (j : first_refusal (period_refusals slots period) ≡ None)
+    {e : Option Refusal} {places₀ places₁ pairs₀ pairs₁ values₀ values₁ : List ℕ} {r : Result ℕ Refusal} (fit : slots ≤ length places₀) (q : e ≡ first_refusal (map_room (slot_map m slots period ts) pairs₀ values₀))
     (z : ZeroMapWritten slots period seen places₀ places₁ pairs₀ pairs₁ values₀ values₁ r) where
   abbrev count : ℕ
   count = rank (reached slots ts) slots
@@ -220,18 +220,18 @@ module _ (m : ℕ) {slots period : ℕ} {ts : List Term} {seen : List Bool} (k :
 
   refusal_is : zero_map_refusal slots period seen places₀ pairs₀ values₀ ≡ e
   refusal_is =
-      first_alone (period_refusals slots period ++ map_room blank pairs₀ values₀) ((nat_lt (length places₀) slots, 12) ∷ []) (rw (le-ltb (length places₀) slots fit))
-      ∙ first_later (period_refusals slots period) (map_room blank pairs₀ values₀) (suc-ne-zero 0, (suc-ne-zero 3, tt)) j
+      first_alone (period_refusals slots period ++ map_room blank pairs₀ values₀) ((nat_lt (length places₀) slots, Room) ∷ []) (rw (le-ltb (length places₀) slots fit))
+      ∙ first_later (period_refusals slots period) (map_room blank pairs₀ values₀) j
       ∙ rw (same_count, same_total) (sym q)
 
-  pub zero_refused : {x : ℕ} → r ≡ Refused x → MapWritten e whole pairs₀ pairs₁ values₀ values₁ (Refused x)
+  pub zero_refused : {x : Refusal} → r ≡ Err x → MapWritten e whole pairs₀ pairs₁ values₀ values₁ (Err x)
   zero_refused h = refused_any {ds = blank} (rw (refusal_is, h) at z.written)
 
-  module _ {n : ℕ} (h : r ≡ Is n) where
-    answer_is : (zero_map_refusal slots period seen places₀ pairs₀ values₀ ≡ 0) × (n ≡ length blank)
-    answer_is = when_is (zero_map_refusal slots period seen places₀ pairs₀ values₀) (length blank) n (sym h ∙ z.written.answer)
+  module _ {n : ℕ} (h : r ≡ Ok n) where
+    answer_is : (zero_map_refusal slots period seen places₀ pairs₀ values₀ ≡ None) × (n ≡ length blank)
+    answer_is = when_ok (zero_map_refusal slots period seen places₀ pairs₀ values₀) (length blank) n (sym h ∙ z.written.answer)
 
-    accepted : e ≡ 0
+    accepted : e ≡ None
     accepted = sym refusal_is ∙ answer_is.0
 
     places_are : places₁ ≡ filled (rank (marks seen)) slots places₀
@@ -253,10 +253,10 @@ module _ (m : ℕ) {slots period : ℕ} {ts : List Term} {seen : List Bool} (k :
     pub zero_sums : SumsOf m slots period ts [] values₁ values₁
     zero_sums = sums_self {old = values₀} (record { so_far = values_are; len = rw (values_are) (length_filled _ (count * period) values₀ room); room = room })
 
-    pub zero_written : {values₂ : List ℕ} → SumsOf m slots period ts ts values₁ values₂ → MapWritten e whole pairs₀ pairs₁ values₀ values₂ (Is n)
+    pub zero_written : {values₂ : List ℕ} → SumsOf m slots period ts ts values₁ values₂ → MapWritten e whole pairs₀ pairs₁ values₀ values₂ (Ok n)
     zero_written s =
         record {
-          answer = rw accepted (ap Is (answer_is.1 ∙ same_count));
+          answer = rw accepted (ap Ok (answer_is.1 ∙ same_count));
           pairs = z.written.pairs ∙ rw (refusal_is, same_pairs);
           values = rw (accepted, sums_are, ← filled_front) (s.so_far ∙ rw values_are (filled_filled _ _ (count * period) values₀));
         }

@@ -1,22 +1,17 @@
 -- What the steps of setting a diagonal ask and ensure.
 -- Assumes nothing.
-use Rattle.std.specs.Prelude.{◌≡◌, ℕ, ◌+◌, ◌-◌, ◌^◌, ◌<◌, ◌≤◌, List, ◌++◌, length, take, drop}
+use Rattle.std.specs.Prelude.{◌≡◌, ℕ, ◌+◌, ◌-◌, ◌≤◌, List, ◌++◌, length, take, drop}
 use Rattle.ring.specs.Vectors.{in_front}
 use Rattle.diagonals.specs.declared.setting.Change.{Change}
-use Rattle.diagonals.specs.Maps.{Diagonal, pair_room, offset_at, pair_of, start_at}
+use Rattle.diagonals.specs.Maps.{Diagonal, pair_room, pair_of, start_at}
 use Rattle.diagonals.specs.Steps.Reading.{Placed}
-
--- pairs whose lengths a walk may add up, with rising offsets
-pub record InOrder (count : ℕ) (pairs : List ℕ) : Type 0 where
-  pub inside : pair_room count ≤ length pairs
-  pub few : count ≤ 65536
-  pub small : start_at pairs count ≤ 2 ^ 63
-  pub rising : (i j : ℕ) → i < j → j < count → offset_at pairs i < offset_at pairs j
 
 -- what a set of `len` values at offset k changes: the first pair not below k, the first above it, and the new counts
 pub record Changed (count : ℕ) (pairs : List ℕ) (k len : ℕ) (r : Change) : Type 0 where
-  pub here : Placed count pairs k r.index r.start
-  pub above : Placed count pairs (k + 1) r.behind r.from
+  pub here : Placed count pairs k r.index
+  pub above : Placed count pairs (k + 1) r.behind
+  pub start_is : r.start ≡ start_at pairs r.index
+  pub from_is : r.from ≡ start_at pairs r.behind
   pub end_is : r.end ≡ start_at pairs count
   pub pairs_is : r.pairs ≡ r.index + 1 + (count - r.behind)
   pub values_is : r.values ≡ r.start + len + (r.end - r.from)

@@ -3,7 +3,7 @@
 use Rattle.std.specs.Prelude.{◌≡◌, ℕ, ◌+◌, ◌-◌, ◌*◌, ◌%◌, ◌<◌, ◌≤◌, cond, ◌&&◌, List, ◌++◌, map, length, take, drop, ◌==◌, nat_lt, slice_index}
 use Rattle.ring.specs.Vectors.{tabulate, in_front}
 use Rattle.ring.specs.Refusals.{Range}
-use Rattle.diagonals.specs.Maps.{Diagonal, pair_room, offset_at, put_pair, pair_words, value_words, start_at, diagonal_at, view, WellFormed}
+use Rattle.diagonals.specs.Maps.{Diagonal, pair_room, offset_at, put_pair, pair_words, value_words, start_at, diagonal_at, view}
 use Rattle.diagonals.specs.Shrinking.{common_period, at_period}
 use Rattle.diagonals.specs.Transposing.{opposite, turned}
 
@@ -27,10 +27,8 @@ pub record Common (ds : List Diagonal) (r : ℕ) : Type 0 where
   pub is : r ≡ common_period ds
   pub range : Range r
 
--- a map, its common period, and room for it at that
-pub record Shrinking (slots count : ℕ) (pairs values : List ℕ) (period : ℕ) (pairs₀ values₀ : List ℕ) : Type 0 where
-  pub slots_in_fact : Range slots
-  pub formed : WellFormed slots count pairs values
+-- a common period, and room for a map at that
+pub record Shrinking (count period : ℕ) (pairs₀ values₀ : List ℕ) : Type 0 where
   pub period_in : Range period
   pub pairs_room : pair_room count ≤ length pairs₀
   pub values_room : count * period ≤ length values₀
@@ -43,17 +41,17 @@ pub record Words (ds : List Diagonal) (pairs₀ pairs values₀ values : List �
 abbrev pub Shrunk : ℕ → List ℕ → List ℕ → ℕ → List ℕ → List ℕ → List ℕ → List ℕ → Type 0
 Shrunk count pairs values period pairs₀ pairs₁ values₀ values₁ = Words (map (at_period period) (view count pairs values)) pairs₀ pairs₁ values₀ values₁
 
--- the i-th diagonal of a map, with room for it as the n-th of the transposed
-pub record Turning (slots : ℕ) (pairs : List ℕ) (i : ℕ) (part : List ℕ) (n at : ℕ) (pairs₀ values₀ : List ℕ) : Type 0 where
+-- values of a diagonal at offset k, with room for it as the n-th of the transposed
+pub record Turning (slots k : ℕ) (part : List ℕ) (n at : ℕ) (pairs₀ values₀ : List ℕ) : Type 0 where
   pub slots_in_fact : Range slots
-  pub low : offset_at pairs i < slots
+  pub low : k < slots
   pub part_in : Range (length part)
   pub pairs_room : pair_room (n + 1) ≤ length pairs₀
   pub values_room : at + length part ≤ length values₀
 
-abbrev pub Turned : ℕ → List ℕ → ℕ → List ℕ → ℕ → ℕ → List ℕ → List ℕ → List ℕ → List ℕ → Type 0
-Turned slots pairs i part n at pairs₀ pairs₁ values₀ values₁ =
-    Appended part (opposite slots (offset_at pairs i) % length part) (opposite slots (offset_at pairs i)) (length part) n at pairs₀ pairs₁ values₀ values₁
+abbrev pub Turned : ℕ → ℕ → List ℕ → ℕ → ℕ → List ℕ → List ℕ → List ℕ → List ℕ → Type 0
+Turned slots k part n at pairs₀ pairs₁ values₀ values₁ =
+    Appended part (opposite slots k % length part) (opposite slots k) (length part) n at pairs₀ pairs₁ values₀ values₁
 
 -- how many diagonals stay first: 1 where the first has offset 0
 abbrev pub leading : ℕ → List ℕ → ℕ
@@ -66,17 +64,14 @@ source count first n = cond (nat_lt n first) n (count + first - 1 - n)
 abbrev pub turned_at : ℕ → ℕ → ℕ → List ℕ → List ℕ → ℕ → Diagonal
 turned_at slots count first pairs values n = turned slots (diagonal_at pairs values (source count first n))
 
--- a map, with room for it transposed
-pub record Transposing (slots count : ℕ) (pairs values : List ℕ) (total : ℕ) (pairs₀ values₀ : List ℕ) : Type 0 where
-  pub slots_in_fact : Range slots
-  pub formed : WellFormed slots count pairs values
-  pub total_is : total ≡ start_at pairs count
+-- room for a map transposed
+pub record Transposing (count : ℕ) (pairs pairs₀ values₀ : List ℕ) : Type 0 where
   pub pairs_room : pair_room count ≤ length pairs₀
-  pub values_room : total ≤ length values₀
+  pub values_room : start_at pairs count ≤ length values₀
 
 -- those that stay first are there already
-pub record Rest (slots count first : ℕ) (pairs values : List ℕ) (total front : ℕ) (pairs₀ values₀ : List ℕ) : Type 0 where
-  pub whole : Transposing slots count pairs values total pairs₀ values₀
+pub record Rest (slots count first : ℕ) (pairs values : List ℕ) (front : ℕ) (pairs₀ values₀ : List ℕ) : Type 0 where
+  pub whole : Transposing count pairs pairs₀ values₀
   pub lead : first ≡ leading count pairs
   pub inside : first ≤ count
   pub front_is : front ≡ start_at pairs first

@@ -1,17 +1,20 @@
 -- What the private steps of the calls about lists of babies ask and ensure.
 -- Assumes nothing.
-use Rattle.std.specs.Prelude.{ℕ, ◌+◌, ◌-◌, ◌*◌, ◌^◌, ◌≤◌, ◌<◌, ◌≡◌, Bool, true, false, cond, ◌&&◌, ◌⊎◌, List, [], ◌∷◌, map, eqb, leb, ltb, ℤ, pos, length}
+use Rattle.std.specs.Prelude.{ℕ, ◌+◌, ◌-◌, ◌*◌, ◌^◌, ◌≤◌, ◌<◌, ◌≡◌, Bool, true, false, cond, ◌&&◌, ◌⊎◌, List, [], ◌∷◌, map, eqb, leb, ltb, ℤ, pos, length, Option, Result, Ok}
 use Rattle.std.specs.Int.Signed.{lt_z}
 use Rattle.ring.specs.Lists.{join, Each, among}
 use Rattle.ring.specs.Vectors.{in_front}
 use Rattle.ring.specs.Searches.{below}
 use Rattle.ring.specs.Marks.{marks}
+use Rattle.ring.specs.declared.refusal.Refusal.{Refusal}
+use Rattle.ring.specs.declared.refusal.Refusal.TheVariants.{Room}
 use Rattle.ring.specs.Refusals.{first_refusal, on_accept, Range}
+use Rattle.ring.specs.Answers.{answered, judged}
 use Rattle.linear_transformation.specs.declared.rotations.BsgsRotations.{BsgsRotations}
-use Rattle.linear_transformation.specs.declared.rotations.PassesAnswer.{PassesAnswer}
+use Rattle.linear_transformation.specs.declared.rotations.PassSizes.{PassSizes}
 use Rattle.linear_transformation.specs.Closures.{cleared, closure, targets, Pass, passes, non_empty}
 use Rattle.linear_transformation.specs.Listed.{baby_refusals, baby_step_of, no_baby, multiples_of, closure_of, pass_record, pass_words, move_words}
-use Rattle.linear_transformation.specs.Calls.{pass_answered}
+use Rattle.linear_transformation.specs.Calls.{pass_sizes}
 
 -- ---- refusals
 
@@ -20,9 +23,9 @@ pub record Babies (step : ℕ) (bs : List ℤ) : Type 0 where
   pub range : Range step
   pub each : Each (λ z. no_baby z step ≡ false) bs
 
-pub record BabiesJudged (rotations : BsgsRotations) (bs : List ℤ) (r : ℕ) : Type 0 where
-  pub answer : r ≡ first_refusal (baby_refusals rotations bs)
-  pub accepted : r ≡ 0 → Babies (baby_step_of rotations) bs
+pub record BabiesJudged (rotations : BsgsRotations) (bs : List ℤ) (r : Result Unit Refusal) : Type 0 where
+  pub answer : r ≡ judged (first_refusal (baby_refusals rotations bs))
+  pub accepted : r ≡ Ok tt → Babies (baby_step_of rotations) bs
 
 -- neither negative nor above 65,535
 pub record Small (z : ℤ) : Type 0 where
@@ -55,12 +58,6 @@ pub record Closes (n : ℕ) (old new : List Bool) : Type 0 where
   pub clears : Clears (marks new)
   pub least : (p : ℕ → Bool) → Clears p → ((k : ℕ) → marks old k ≡ true → p k ≡ true) → (k : ℕ) → marks new k ≡ true → p k ≡ true
 
--- a bound on the numbers below n and on k
-pub record Above (n k r : ℕ) : Type 0 where
-  pub old : n ≤ r
-  pub new : k < r
-  pub low : n ≤ 65536 → r ≤ 65536
-
 -- the marks of the babies' multiples
 pub record Marked (step : ℕ) (bs : List ℤ) (seen : List Bool) (n : ℕ) : Type 0 where
   pub bounded : Bounded seen n
@@ -79,10 +76,6 @@ pub record Reached (rotations : BsgsRotations) (bs : List ℤ) (seen : List Bool
 -- the i below b such that 2^i is the top bit of one of the numbers
 abbrev pub tops_of : List ℕ → ℕ → List ℕ
 tops_of cs b = below (λ i. non_empty (targets cs i)) b
-
--- whether p, a power of two, is the top bit of one of the numbers
-pub record HasTop (cs : List ℕ) (p : ℕ) (r : Bool) : Type 0 where
-  pub is : (i : ℕ) → p ≡ 2 ^ i → r ≡ non_empty (targets cs i)
 
 -- ---- passes
 
@@ -119,10 +112,10 @@ pub record PassesLeft (step : ℕ) (bs : List ℤ) (old new moves moves' : List 
   pub moves_are : moves' ≡ in_front (move_words (passes 16 step (multiples_of step bs))) moves
 
 -- `baby_passes` of accepted babies, with powers of two
-abbrev pub room_refusal : List Pass → List ℕ → List ℕ → ℕ
-room_refusal ps old moves = first_refusal ((ltb (length old) (length (pass_words ps)), 12) ∷ (ltb (length moves) (length (move_words ps)), 12) ∷ [])
+abbrev pub room_refusal : List Pass → List ℕ → List ℕ → Option Refusal
+room_refusal ps old moves = first_refusal ((ltb (length old) (length (pass_words ps)), Room) ∷ (ltb (length moves) (length (move_words ps)), Room) ∷ [])
 
-pub record PowerPasses (step : ℕ) (bs : List ℤ) (old new moves moves' : List ℕ) (r : PassesAnswer) : Type 0 where
-  pub answer : r ≡ pass_answered (room_refusal (passes 16 step (multiples_of step bs)) old moves) (length (passes 16 step (multiples_of step bs))) (length (join (λ p. p.moves) (passes 16 step (multiples_of step bs))))
+pub record PowerPasses (step : ℕ) (bs : List ℤ) (old new moves moves' : List ℕ) (r : Result PassSizes Refusal) : Type 0 where
+  pub answer : r ≡ answered (room_refusal (passes 16 step (multiples_of step bs)) old moves) (pass_sizes (passes 16 step (multiples_of step bs)))
   pub passes_are : new ≡ on_accept (room_refusal (passes 16 step (multiples_of step bs)) old moves) (in_front (pass_words (passes 16 step (multiples_of step bs))) old) old
   pub moves_are : moves' ≡ on_accept (room_refusal (passes 16 step (multiples_of step bs)) old moves) (in_front (move_words (passes 16 step (multiples_of step bs))) moves) moves

@@ -1,7 +1,9 @@
 -- What the private steps that are about numbers alone ask and ensure.
 -- Assumes nothing.
-use Rattle.std.specs.Prelude.{ℕ, ◌≤◌, ◌<◌, ◌≡◌}
+use Rattle.std.specs.Prelude.{ℕ, ◌≤◌, ◌<◌, ◌≡◌, Result, Ok}
+use Rattle.ring.specs.declared.refusal.Refusal.{Refusal}
 use Rattle.ring.specs.Refusals.{first_refusal, Range}
+use Rattle.ring.specs.Answers.{judged}
 use Rattle.linear_transformation.specs.declared.rotations.BsgsRotations.{BsgsRotations}
 use Rattle.linear_transformation.specs.declared.rotations.BsgsRotations.TheVariants.{PerRotation, PowersOfTwo}
 use Rattle.linear_transformation.specs.Listed.{step_refusals}
@@ -17,6 +19,6 @@ abbrev pub StepsInside : BsgsRotations → Type 0
 StepsInside PerRotation = Unit {0}
 StepsInside (PowersOfTwo baby_step giant_step slots) = Range baby_step × (Range giant_step × Range slots)
 
-pub record StepsJudged (rotations : BsgsRotations) (r : ℕ) : Type 0 where
-  pub answer : r ≡ first_refusal (step_refusals rotations)
-  pub inside : r ≡ 0 → StepsInside rotations
+pub record StepsJudged (rotations : BsgsRotations) (r : Result Unit Refusal) : Type 0 where
+  pub answer : r ≡ judged (first_refusal (step_refusals rotations))
+  pub inside : r ≡ Ok tt → StepsInside rotations

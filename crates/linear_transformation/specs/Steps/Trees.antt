@@ -1,13 +1,15 @@
 -- What the private steps of the tree's calls ask and ensure.
 -- Assumes nothing. The nodes stand in a heap: node n of level i at 2^(b-i) + n, the parent of h at h / 2.
-use Rattle.std.specs.Prelude.{ℕ, suc, ◌+◌, ◌*◌, ◌-◌, ◌%◌, ◌^◌, ◌≤◌, ◌<◌, ◌≡◌, Bool, true, false, not, ◌||◌, List, map, ℤ, length}
+use Rattle.std.specs.Prelude.{ℕ, suc, ◌+◌, ◌*◌, ◌-◌, ◌%◌, ◌^◌, ◌≤◌, ◌<◌, ◌≡◌, Bool, true, false, not, ◌||◌, List, map, ℤ, length, Result, Ok}
 use Rattle.std.specs.Int.Signed.{mag}
 use Rattle.ring.specs.Lists.{join, Each, some, among}
 use Rattle.ring.specs.Marks.{marks}
 use Rattle.ring.specs.Searches.{below}
 use Rattle.ring.specs.Vectors.{tabulate}
 use Rattle.ring.specs.Residues.{residue_of}
+use Rattle.ring.specs.declared.refusal.Refusal.{Refusal}
 use Rattle.ring.specs.Refusals.{first_refusal}
+use Rattle.ring.specs.Answers.{judged}
 use Rattle.ring.specs.Divisors.{divides}
 use Rattle.linear_transformation.specs.declared.digits.Digit.{Digit}
 use Rattle.linear_transformation.specs.declared.rotations.BsgsRotations.TheVariants.{PowersOfTwo}
@@ -37,9 +39,9 @@ pub record AreMultiples (slots step : ℕ) (gs : List ℤ) (r : Bool) : Type 0 w
   pub answer : not r ≡ some (λ z. not (divides step (residue_of z slots))) gs
   pub each : r ≡ true → Each (Listed slots step) gs
 
-pub record GiantsJudged (baby_step giant_step slots : ℕ) (gs : List ℤ) (r : ℕ) : Type 0 where
-  pub answer : r ≡ first_refusal (giant_refusals (PowersOfTwo baby_step giant_step slots) gs)
-  pub accepted : r ≡ 0 → Listing slots giant_step gs
+pub record GiantsJudged (baby_step giant_step slots : ℕ) (gs : List ℤ) (r : Result Unit Refusal) : Type 0 where
+  pub answer : r ≡ judged (first_refusal (giant_refusals (PowersOfTwo baby_step giant_step slots) gs))
+  pub accepted : r ≡ Ok tt → Listing slots giant_step gs
 
 -- ---- digits and leaves
 
@@ -113,6 +115,11 @@ pub record Planted (slots step : ℕ) (gs : List ℤ) (heap : List Bool) (r : �
   pub heaped : Heaped r (leaves_of (digits_of slots step (map (rot_of slots) gs))) heap
 
 -- ---- levels, from the heap alone
+
+-- level i of b
+pub record LevelOf (b i : ℕ) : Type 0 where
+  pub low : b ≤ 16
+  pub inside : i < b
 
 -- whether the k-th odd node of the level with 2·m places is there, k from 0 on; and its pair
 abbrev pub odd_at : List Bool → ℕ → ℕ → Bool

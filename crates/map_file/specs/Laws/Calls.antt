@@ -1,34 +1,42 @@
 -- The theorems of document 02's A1: what the writer produces is what the reader accepts, and each undoes the other.
 -- Assumes nothing.
-use Rattle.std.specs.Prelude.{ℕ, zero, suc, ◌^◌, ◌≤◌, ◌<◌, ◌≡◌, refl, true, false, not, List, [], ◌∷◌, eqb, ltb, length, take}
-use Rattle.std.proofs.Common.{sym, ap, ◌∙◌, suc-ne-zero, arith}
+use Rattle.std.specs.Prelude.{ℕ, ◌^◌, ◌≤◌, ◌<◌, ◌≡◌, is_none, refl, true, false, not, List, [], ◌∷◌, eqb, ltb, length, take, Option, None, Some, Result, Ok}
+use Rattle.std.proofs.Common.{sym, ap, ◌∙◌, arith}
 use borrow.Author.Tests.{eqb-true, eq-eqb, not-false}
 use Rattle.std.proofs.Math.Seq.{take-append_seam}
+use Rattle.ring.specs.declared.refusal.Refusal.{Refusal}
+use Rattle.ring.specs.declared.refusal.Refusal.TheVariants.{Room, File}
 use Rattle.ring.specs.Lists.{Each}
 use Rattle.ring.specs.Vectors.{in_front}
-use Rattle.ring.specs.Refusals.{first_refusal, on_accept, turn_of, in_order, outside}
-use Rattle.ring.specs.declared.Answer.{Answer}
-use Rattle.ring.specs.declared.Answer.TheVariants.{Is}
+use Rattle.ring.specs.Refusals.{number, first_refusal, on_accept, turn_of, in_order, outside}
+use Rattle.ring.specs.Answers.{answered}
 use Rattle.ring.specs.Laws.Lists.{each_tabulate, each_take}
 use Rattle.ring.specs.Laws.Searches.{both, first, second}
 use Rattle.ring.specs.Laws.Refusals.{on_accept_accepted, none_of_both, pick_none, inside}
-use Rattle.ring.specs.Laws.Answers.{when_is}
+use Rattle.ring.specs.Laws.Answers.{when_ok}
 use Rattle.diagonals.specs.Maps.{Diagonal, pair_room, start_at, pair_words, value_words, view, FormedMap}
 use Rattle.diagonals.specs.Calls.{map_refusals, map_refusal, map_room, Holds}
 use Rattle.diagonals.specs.Laws.Maps.{length_view}
 use Rattle.diagonals.specs.Laws.Words.{values_view, pairs_view, view_in_front, formed_view, words_formed, view_alone, formed_alone}
 use Rattle.diagonals.specs.Laws.Calls.{stored_means, means_stored, room_fits, fits_room}
 use Rattle.map_file.specs.declared.reading.FileMap.{FileMap}
-use Rattle.map_file.specs.declared.reading.FileMap.TheVariants as Map
+use Rattle.map_file.specs.declared.reading.FileRoom.{FileRoom}
 use Rattle.map_file.specs.Files.{file_of, slots_in, count_in, start_in, value_in, map_in, is_file}
-use Rattle.map_file.specs.Calls.{map_file, write_refusals, write_refusal, FileWritten, room_numbers, roomed, map_numbers, mapped, read_refusals, read_refusal, FileRead}
+use Rattle.map_file.specs.Calls.{map_file, write_refusals, write_refusal, FileWritten, room_numbers, map_numbers, read_refusals, read_refusal, FileRead}
 use Rattle.map_file.specs.Laws.Numbers.{number_low}
 use Rattle.map_file.specs.Laws.Telling.{values_told}
 use Rattle.map_file.specs.Laws.Files.{Fits, formed_fits, file_slots, file_map, map_file_lem}
 
 -- ---- the files that the writer produces are those that the reader accepts
 
-module _ (slots count : ℕ) (pairs values : List ℕ) (stored : map_refusal slots count pairs values ≡ 0) (low : Each (λ v. v < 2 ^ 64) values) where
+pub none_is : {e : Option Refusal} → e ≡ None → is_none e ≡ true
+none_is h = rw h
+
+is_none_at : (e : Option Refusal) → is_none e ≡ true → e ≡ None
+is_none_at None h = refl
+is_none_at (Some e) h = cc
+
+module _ (slots count : ℕ) (pairs values : List ℕ) (stored : map_refusal slots count pairs values ≡ None) (low : Each (λ v. v < 2 ^ 64) values) where
   abbrev ds : List Diagonal
   ds = view count pairs values
 
@@ -53,23 +61,23 @@ module _ (slots count : ℕ) (pairs values : List ℕ) (stored : map_refusal slo
   unfolding is_file
   file_accepted =
       rw (file_accepted_map, file_accepted_slots)
-      (both (eq-eqb _ 0 (means_stored slots (length ds) (pair_words ds) (value_words ds) (stored_means slots count pairs values stored).0 (formed_alone ds slots stored_map))) (eq-eqb (length (file_of slots ds)) _ refl))
+      (both (none_is (means_stored slots (length ds) (pair_words ds) (value_words ds) (stored_means slots count pairs values stored).0 (formed_alone ds slots stored_map))) (eq-eqb (length (file_of slots ds)) _ refl))
 
 -- what a file is
 module _ (bytes : List ℕ) (file : is_file bytes ≡ true) where
   abbrev told : List Diagonal
   told = map_in bytes
 
-  abbrev refusal : ℕ
+  abbrev refusal : Option Refusal
   refusal = map_refusal (slots_in bytes) (length told) (pair_words told) (value_words told)
 
-  pub file_stored : refusal ≡ 0
+  pub file_stored : refusal ≡ None
   unfolding is_file
-  file_stored = eqb-true _ 0 (first (eqb refusal 0) (eqb (length bytes) (length (file_of (slots_in bytes) told))) file)
+  file_stored = is_none_at refusal (first (is_none refusal) (eqb (length bytes) (length (file_of (slots_in bytes) told))) file)
 
   pub file_size : length bytes ≡ length (file_of (slots_in bytes) told)
   unfolding is_file
-  file_size = eqb-true _ _ (second (eqb refusal 0) (eqb (length bytes) (length (file_of (slots_in bytes) told))) file)
+  file_size = eqb-true _ _ (second (is_none refusal) (eqb (length bytes) (length (file_of (slots_in bytes) told))) file)
 
   pub file_range : outside (slots_in bytes) ≡ false
   file_range = (stored_means (slots_in bytes) (length told) (pair_words told) (value_words told) file_stored).0
@@ -83,7 +91,7 @@ pub record Produced (bytes : List ℕ) : Type 0 where
   pub count : ℕ
   pub pairs : List ℕ
   pub values : List ℕ
-  pub stored : map_refusal slots count pairs values ≡ 0
+  pub stored : map_refusal slots count pairs values ≡ None
   pub values_fit : Each (λ v. v < 2 ^ 64) values
   pub is : map_file slots count pairs values ≡ bytes
 
@@ -109,35 +117,30 @@ module _ (bytes : List ℕ) (low : Each (λ b. b < 256) bytes) where
 
 module _ (bytes pairs values : List ℕ) where
   -- what is no file is refused with 13
-  pub read_refused_13 : is_file bytes ≡ false → read_refusal bytes pairs values ≡ 13
+  pub read_refused_13 : is_file bytes ≡ false → read_refusal bytes pairs values ≡ Some File
   read_refused_13 h = rw h
 
   -- a file is accepted where there is room for its map
-  pub read_accepts : is_file bytes ≡ true → pair_room (length (map_in bytes)) ≤ length pairs → length (value_words (map_in bytes)) ≤ length values → read_refusal bytes pairs values ≡ 0
+  pub read_accepts : is_file bytes ≡ true → pair_room (length (map_in bytes)) ≤ length pairs → length (value_words (map_in bytes)) ≤ length values → read_refusal bytes pairs values ≡ None
   read_accepts h l m = rw h (fits_room (map_in bytes) pairs values l m)
 
   -- and nothing else is
-  pub read_accepted : read_refusal bytes pairs values ≡ 0 → (is_file bytes ≡ true) × ((pair_room (length (map_in bytes)) ≤ length pairs) × (length (value_words (map_in bytes)) ≤ length values))
+  pub read_accepted : read_refusal bytes pairs values ≡ None → (is_file bytes ≡ true) × ((pair_room (length (map_in bytes)) ≤ length pairs) × (length (value_words (map_in bytes)) ≤ length values))
   read_accepted h =
-      let q = pick_none (not (is_file bytes)) 13 (first_refusal (map_room (map_in bytes) pairs values)) (suc-ne-zero 12) h in
+      let q = pick_none (not (is_file bytes)) File (first_refusal (map_room (map_in bytes) pairs values)) h in
       (not-false _ q.0, room_fits (map_in bytes) pairs values q.1)
 
 -- given room, the reader accepts exactly the files that the writer can produce
 module _ (bytes pairs values : List ℕ) where
-  pub produced_accepted : Produced bytes → pair_room (length (map_in bytes)) ≤ length pairs → length (value_words (map_in bytes)) ≤ length values → read_refusal bytes pairs values ≡ 0
+  pub produced_accepted : Produced bytes → pair_room (length (map_in bytes)) ≤ length pairs → length (value_words (map_in bytes)) ≤ length values → read_refusal bytes pairs values ≡ None
   produced_accepted p = read_accepts bytes pairs values (rw p.is at (file_accepted p.slots p.count p.pairs p.values p.stored p.values_fit))
 
-  pub accepted_produced : Each (λ b. b < 256) bytes → read_refusal bytes pairs values ≡ 0 → Produced bytes
+  pub accepted_produced : Each (λ b. b < 256) bytes → read_refusal bytes pairs values ≡ None → Produced bytes
   accepted_produced low z = accepted_file bytes low (read_accepted bytes pairs values z).0
 
--- the case of an answer
-when_map : (e s c slots count : ℕ) → Map.Is slots count ≡ mapped e s c → (e ≡ 0) × ((slots ≡ s) × (count ≡ c))
-when_map zero s c slots count h = (refl, (cc, cc))
-when_map (suc e) s c slots count h = let z : ◌≡◌ {A = ℕ} 0 1 = cc in omega arith
-
-module _ {bytes pairs₀ pairs₁ values₀ values₁ : List ℕ} {a : FileMap} (r : FileRead bytes pairs₀ pairs₁ values₀ values₁ a) where
+module _ {bytes pairs₀ pairs₁ values₀ values₁ : List ℕ} {a : Result FileMap Refusal} (r : FileRead bytes pairs₀ pairs₁ values₀ values₁ a) where
   -- an accepted read leaves the map for the next call
-  read_holds : read_refusal bytes pairs₀ values₀ ≡ 0 → Holds (slots_in bytes) (map_in bytes) (length (map_in bytes)) pairs₁ values₁
+  read_holds : read_refusal bytes pairs₀ values₀ ≡ None → Holds (slots_in bytes) (map_in bytes) (length (map_in bytes)) pairs₁ values₁
   read_holds z =
       let q = read_accepted bytes pairs₀ values₀ z in
       rw (r.pairs ∙ on_accept_accepted _ _ _ z, r.values ∙ on_accept_accepted _ _ _ z)
@@ -149,19 +152,19 @@ module _ {bytes pairs₀ pairs₁ values₀ values₁ : List ℕ} {a : FileMap} 
 -- ---- reading undoes writing
 
 -- an accepted write leaves the file in front and answers how long it is
-pub written_file : {slots count : ℕ} {pairs values old new : List ℕ} {r : Answer} → write_refusal slots count pairs values old ≡ 0 → FileWritten slots count pairs values old new r → (take (length (map_file slots count pairs values)) new ≡ map_file slots count pairs values) × (r ≡ Is (length (map_file slots count pairs values)))
+pub written_file : {slots count : ℕ} {pairs values old new : List ℕ} {r : Result ℕ Refusal} → write_refusal slots count pairs values old ≡ None → FileWritten slots count pairs values old new r → (take (length (map_file slots count pairs values)) new ≡ map_file slots count pairs values) × (r ≡ Ok (length (map_file slots count pairs values)))
 unfolding in_front
 written_file {slots} {count} {pairs} {values} {old} z w =
     (rw (w.out, z) (take-append_seam (map_file slots count pairs values) _), w.answer ∙ rw z)
 
 -- what is read of a map's file: its slots and count, and the buffers hold the map for the next call
-pub record ReadBack (slots count : ℕ) (pairs values pairs₁ values₁ : List ℕ) (a : FileMap) : Type 0 where
-  pub answer : a ≡ Map.Is slots count
+pub record ReadBack (slots count : ℕ) (pairs values pairs₁ values₁ : List ℕ) (a : Result FileMap Refusal) : Type 0 where
+  pub answer : a ≡ Ok (record { slots = slots; count = count })
   pub holds : Holds slots (view count pairs values) count pairs₁ values₁
 
-module _ {slots count : ℕ} {pairs values pairs₀ pairs₁ values₀ values₁ : List ℕ} {a : FileMap} (low : Each (λ v. v < 2 ^ 64) values) (pairs_fit : pair_room count ≤ length pairs₀) (values_fit : length (value_words (view count pairs values)) ≤ length values₀) where
+module _ {slots count : ℕ} {pairs values pairs₀ pairs₁ values₀ values₁ : List ℕ} {a : Result FileMap Refusal} (low : Each (λ v. v < 2 ^ 64) values) (pairs_fit : pair_room count ≤ length pairs₀) (values_fit : length (value_words (view count pairs values)) ≤ length values₀) where
   -- the file of a stored map, read where there is room, is that map
-  pub file_read : map_refusal slots count pairs values ≡ 0 → FileRead (map_file slots count pairs values) pairs₀ pairs₁ values₀ values₁ a → ReadBack slots count pairs values pairs₁ values₁ a
+  pub file_read : map_refusal slots count pairs values ≡ None → FileRead (map_file slots count pairs values) pairs₀ pairs₁ values₀ values₁ a → ReadBack slots count pairs values pairs₁ values₁ a
   file_read stored r =
       let file : List ℕ = map_file slots count pairs values in
       let s = file_accepted_slots slots count pairs values stored low in
@@ -174,20 +177,26 @@ module _ {slots count : ℕ} {pairs values pairs₀ pairs₁ values₀ values₁
       }
 
   -- and so is what an accepted write left
-  pub read_written : {old new : List ℕ} {n : ℕ} → FileWritten slots count pairs values old new (Is n) → FileRead (take n new) pairs₀ pairs₁ values₀ values₁ a → ReadBack slots count pairs values pairs₁ values₁ a
+  pub read_written : {old new : List ℕ} {n : ℕ} → FileWritten slots count pairs values old new (Ok n) → FileRead (take n new) pairs₀ pairs₁ values₀ values₁ a → ReadBack slots count pairs values pairs₁ values₁ a
   read_written {old} {new} {n} w r =
       let size : ℕ = length (map_file slots count pairs values) in
-      let q = when_is (write_refusal slots count pairs values old) size n w.answer in
-      let stored = (none_of_both (map_refusals slots count pairs values) ((ltb (length old) size, 12) ∷ []) (suc-ne-zero 0, (suc-ne-zero 1, tt)) q.0).0 in
+      let q = when_ok (write_refusal slots count pairs values old) size n w.answer in
+      let stored = (none_of_both (map_refusals slots count pairs values) ((ltb (length old) size, Room) ∷ []) q.0).0 in
       let file : take n new ≡ map_file slots count pairs values = ap (λ (x : ℕ). take x new) q.1 ∙ (written_file q.0 w).0 in
       file_read stored (rw file at r)
 
 -- ---- writing undoes reading
 
+-- the numbers of an accepted answer
+read_told : {e : Option Refusal} {s c slots count : ℕ} → ◌≡◌ {A = Result FileMap Refusal} (Ok (record { slots = slots; count = count })) (answered e (record { slots = s; count = c })) → (e ≡ None) × ((slots ≡ s) × (count ≡ c))
+read_told {e} h =
+    let q = when_ok e _ _ h in
+    (q.0, (ap (λ (m : FileMap). m.slots) q.1, ap (λ (m : FileMap). m.count) q.1))
+
 -- what is written of a map that was read is its file
-pub write_read : {bytes pairs₀ pairs₁ values₀ values₁ : List ℕ} {slots count : ℕ} → Each (λ b. b < 256) bytes → FileRead bytes pairs₀ pairs₁ values₀ values₁ (Map.Is slots count) → (map_refusal slots count pairs₁ values₁ ≡ 0) × (map_file slots count pairs₁ values₁ ≡ bytes)
+pub write_read : {bytes pairs₀ pairs₁ values₀ values₁ : List ℕ} {slots count : ℕ} → Each (λ b. b < 256) bytes → FileRead bytes pairs₀ pairs₁ values₀ values₁ (Ok (record { slots = slots; count = count })) → (map_refusal slots count pairs₁ values₁ ≡ None) × (map_file slots count pairs₁ values₁ ≡ bytes)
 write_read {bytes} {pairs₀} {pairs₁} {values₀} {values₁} {slots} {count} low r =
-    let q = when_map (read_refusal bytes pairs₀ values₀) (slots_in bytes) (length (map_in bytes)) slots count r.answer in
+    let q = read_told r.answer in
     let h : Holds slots (map_in bytes) count pairs₁ values₁ = rw (q.1.0, q.1.1) (read_holds r q.0) in
     let size = file_size bytes (read_accepted bytes pairs₀ values₀ q.0).0 in
     (h.accepted, ap (file_of slots) h.view_is ∙ ap (λ (x : ℕ). file_of x (map_in bytes)) q.1.0 ∙ map_file_lem bytes low size)
@@ -201,7 +210,7 @@ pub record SameMap (slots slots' count count' : ℕ) (pairs pairs' values values
   pub values_same : take (start_at pairs count) values ≡ take (start_at pairs' count') values'
 
 -- maps with one file are one map
-pub equal_files : {slots slots' count count' : ℕ} {pairs pairs' values values' : List ℕ} → map_refusal slots count pairs values ≡ 0 → Each (λ v. v < 2 ^ 64) values → map_refusal slots' count' pairs' values' ≡ 0 → Each (λ v. v < 2 ^ 64) values'
+pub equal_files : {slots slots' count count' : ℕ} {pairs pairs' values values' : List ℕ} → map_refusal slots count pairs values ≡ None → Each (λ v. v < 2 ^ 64) values → map_refusal slots' count' pairs' values' ≡ None → Each (λ v. v < 2 ^ 64) values'
     → map_file slots count pairs values ≡ map_file slots' count' pairs' values' → SameMap slots slots' count count' pairs pairs' values values'
 equal_files {slots} {slots'} {count} {count'} {pairs} {pairs'} {values} {values'} stored low stored' low' e =
     let w = (stored_means slots count pairs values stored).1 in
@@ -216,13 +225,13 @@ equal_files {slots} {slots'} {count} {count'} {pairs} {pairs'} {values} {values'
 
 -- ---- 01's numbers of the answers
 
-pub room_numbers_lem : (e pairs values : ℕ) → room_numbers (roomed e pairs values) ≡ e ∷ on_accept e pairs 0 ∷ on_accept e values 0 ∷ []
-room_numbers_lem zero pairs values = refl
-room_numbers_lem (suc e) pairs values = refl
+pub room_numbers_lem : (e : Option Refusal) (room : FileRoom) → room_numbers (answered e room) ≡ number e ∷ on_accept e room.pairs 0 ∷ on_accept e room.values 0 ∷ []
+room_numbers_lem None room = refl
+room_numbers_lem (Some e) room = refl
 
-pub map_numbers_lem : (e slots count : ℕ) → map_numbers (mapped e slots count) ≡ e ∷ on_accept e slots 0 ∷ on_accept e count 0 ∷ []
-map_numbers_lem zero slots count = refl
-map_numbers_lem (suc e) slots count = refl
+pub map_numbers_lem : (e : Option Refusal) (file : FileMap) → map_numbers (answered e file) ≡ number e ∷ on_accept e file.slots 0 ∷ on_accept e file.count 0 ∷ []
+map_numbers_lem None file = refl
+map_numbers_lem (Some e) file = refl
 
 -- ---- the checking order
 

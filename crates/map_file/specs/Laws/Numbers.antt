@@ -3,11 +3,12 @@
 use Prim.Native.Nat.{ℕ, zero, suc, ◌+◌, ◌*◌, ◌/◌, ◌%◌, ◌^◌, ◌≤◌, ◌<◌}
 use Rattle.std.specs.Prelude.{◌≡◌, List, [], ◌∷◌, ◌++◌, length, take, drop}
 use Rattle.std.proofs.Math.Path.{refl}
-use Rattle.std.proofs.Common.{ap, ◌∙◌, mul-zero, mul-suc, zero-add, add-zero, suc-add, pow-suc, mul_comm, mul_assoc, one-mul, drop-drop, take-add, get_or-append-add}
-use Rattle.std.proofs.Math.Nat.{pow-zero, add-mul-mod_self_left, add-mul-div_left}
+use Rattle.std.proofs.Common.{sym, ap, ◌∙◌, mul-zero, mul-suc, zero-add, add-zero, suc-add, pow-suc, mul_comm, mul_assoc, one-mul, drop-drop, take-add, get_or-append-add}
+use Rattle.std.proofs.Math.Nat.{div-div-eq-div-mul, pow-zero, add-mul-mod_self_left, add-mul-div_left}
 use native.Mathlib.Omega.{arith}
 use Rattle.std.proofs.Math.ListN.{get_or, get_or-append}
 use Rattle.std.proofs.Math.Seq.{drop-cons}
+use Rattle.std.specs.Int.{Width, byte_len, byte_at, bytes_low_first, to_le_bytes}
 use Rattle.ring.specs.Lists.{Each, join}
 use Rattle.ring.specs.Vectors.{tabulate}
 use Rattle.map_file.specs.Files.{bytes_of, number_at}
@@ -16,6 +17,21 @@ pub length_bytes_of : (k n : ℕ) → length (bytes_of k n) ≡ k
 unfolding bytes_of
 length_bytes_of zero n = refl
 length_bytes_of (suc k) n = ap suc (length_bytes_of k (n / 256))
+
+-- as the library's bytes
+byte_is : (i n : ℕ) → byte_at i n ≡ n / 256 ^ i % 256
+byte_is zero n = rw (pow-zero 256) (omega arith)
+byte_is (suc i) n = refl
+
+low_first : (i k n : ℕ) → bytes_low_first i k n ≡ bytes_of k (n / 256 ^ i)
+unfolding bytes_of
+low_first i zero n = refl
+low_first i (suc k) n =
+    let more : n / 256 ^ suc i ≡ n / 256 ^ i / 256 = rw (pow-suc 256 i) (sym (div-div-eq-div-mul n (256 ^ i) 256)) in
+    rw (byte_is i n, low_first (suc i) k n, more)
+
+pub le_bytes : (w : Width) (n : ℕ) → to_le_bytes w n ≡ bytes_of (byte_len w) n
+le_bytes w n = low_first 0 (byte_len w) n ∙ ap (bytes_of (byte_len w)) (rw (pow-zero 256) (omega arith))
 
 -- 256 ^ (j + 1) is 256 * 256 ^ j
 pow_more : (j : ℕ) → 256 ^ suc j ≡ 256 * 256 ^ j
@@ -43,6 +59,16 @@ number_add (suc j) k bytes at =
     let rest : ℕ = number_at k bytes (suc at + j) in
     let p : 256 ^ suc j * rest ≡ 256 * (256 ^ j * rest) = ap (λ (x : ℕ). x * rest) (pow_more j) ∙ mul_assoc 256 (256 ^ j) rest in
     rw (suc-add j k, e) (omega (arith, number_add j k bytes (suc at), p))
+
+-- a number by its four bytes
+pub number_four : (bytes : List ℕ) (at : ℕ) {i j k : ℕ} → i ≡ at + 1 → j ≡ at + 2 → k ≡ at + 3
+    → number_at 4 bytes at ≡ get_or bytes at 0 + 256 * get_or bytes i 0 + 65536 * get_or bytes j 0 + 16777216 * get_or bytes k 0
+unfolding number_at
+number_four bytes at {i} {j} {k} e f g =
+    let one : get_or bytes (suc at) 0 ≡ get_or bytes i 0 = ap (λ (n : ℕ). get_or bytes n 0) (omega arith) in
+    let two : get_or bytes (suc (suc at)) 0 ≡ get_or bytes j 0 = ap (λ (n : ℕ). get_or bytes n 0) (omega arith) in
+    let three : get_or bytes (suc (suc (suc at))) 0 ≡ get_or bytes k 0 = ap (λ (n : ℕ). get_or bytes n 0) (omega arith) in
+    omega (arith, one, two, three)
 
 -- ---- numbers in lists one after the other
 

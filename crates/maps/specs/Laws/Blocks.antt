@@ -1,22 +1,23 @@
 -- Laws of the maps on replicated inputs: what they are, and what a call has written.
 -- Assumes nothing.
-use Rattle.std.specs.Prelude.{◌≡◌, ℕ, ◌+◌, ◌*◌, ◌/◌, ◌%◌, ◌^◌, ◌<◌, ◌≤◌, Bool, true, false, not, ◌||◌, List, [], ◌∷◌, length, ◌≢◌, nat_lt, slice_index, slice_set}
+use Rattle.std.specs.Prelude.{◌≡◌, ℕ, ◌+◌, ◌*◌, ◌/◌, ◌%◌, ◌^◌, ◌<◌, ◌≤◌, Bool, false, not, ◌||◌, List, [], ◌∷◌, ◌++◌, length, drop, nat_lt, slice_index, slice_set, None, Result, Ok, Err}
 use Rattle.std.proofs.Math.Path.{refl}
-use Rattle.std.proofs.Common.{sym, ap, subst, ◌∙◌, suc-ne-zero, zero-mul, zero-add, one-mul, mod-lt, mul-pos, div-lt_iff_lt-mul, eq-eqb, ne_eqb}
-use Rattle.ring.specs.Vectors.{tabulate, in_front, filled}
+use Rattle.std.proofs.Common.{sym, ap, subst, zero-mul, zero-add, one-mul, mod-lt, mul-pos, div-lt_iff_lt-mul, eq-eqb, le-ltb, lt-ltb}
+use Rattle.ring.specs.declared.refusal.Refusal.{Refusal}
+use Rattle.ring.specs.declared.refusal.Refusal.TheVariants.{Shift, Length}
+use Rattle.ring.specs.Vectors.{tabulate, in_front}
 use Rattle.ring.specs.Refusals.{first_refusal}
-use Rattle.ring.specs.declared.Answer.{Answer}
-use Rattle.ring.specs.declared.Answer.TheVariants.{Refused, Is}
+use Rattle.ring.specs.Answers.{judged}
+use Rattle.ring.specs.Laws.Refusals.{first_later}
 use Rattle.ring.specs.Laws.Vectors.{tabulate_cong, in_front_more}
 use Rattle.diagonals.specs.Maps.{Diagonal, put_pair}
 use Rattle.diagonals.specs.Calls.{map_room, RoomJudged, MapWritten}
-use Rattle.diagonals.specs.Laws.Calls.{room_of, written_refused}
+use Rattle.diagonals.specs.Laws.Calls.{room_of, written_refused, judged_none, judged_some}
 use Rattle.maps.specs.Readings.{tau_rep, rotate_rows_rep}
 use Rattle.maps.specs.Sums.{left_mul_rep}
-use Rattle.maps.specs.Calls.{no_matrices, rows_rep_refusal, left_mul_rep_refusal, TiledWritten, RowsRepWritten, LeftMulRepWritten}
-use Rattle.maps.specs.Steps.Tiles.{TilesJudged}
+use Rattle.maps.specs.Calls.{tile_refusals, no_matrices, rows_rep_refusal, left_mul_rep_refusal, TiledWritten, RowsRepWritten, LeftMulRepWritten}
 use Rattle.maps.specs.Steps.Rows.{rows, row_pairs, row_value, mask, turned_at, turned_place}
-use Rattle.maps.specs.Laws.Tiling.{side_pos, square_pos, tiles_first, tiles_later}
+use Rattle.maps.specs.Laws.Tiling.{side_pos, square_pos}
 use Rattle.maps.specs.Laws.Rows.{room_rows, values_one, one_written, rows_written, tiled_then}
 use Rattle.maps.specs.Laws.Skewing.{place_low}
 
@@ -29,18 +30,18 @@ tau_is : (d : ℕ) → tau_rep d ≡ rows d d (steps d) mask
 unfolding tau_rep
 tau_is d = refl
 
-module _ {slots l r : ℕ} (j : TilesJudged slots l 1 r) (z : r ≡ 0) (pairs₀ values₀ : List ℕ) {t : ℕ} (h : RoomJudged (2 ^ l) (2 ^ l * 2 ^ l) (length pairs₀) (length values₀) t) where
-  tau_room : t ≡ first_refusal (map_room (tau_rep (2 ^ l)) pairs₀ values₀)
+module _ (slots l : ℕ) (z : first_refusal (tile_refusals slots l 1) ≡ None) (pairs₀ values₀ : List ℕ) {t : Result Unit Refusal} (h : RoomJudged (2 ^ l) (2 ^ l * 2 ^ l) (length pairs₀) (length values₀) t) where
+  tau_room : t ≡ judged (first_refusal (map_room (tau_rep (2 ^ l)) pairs₀ values₀))
   tau_room = rw (tau_is (2 ^ l)) (room_rows (2 ^ l) (2 ^ l) (steps (2 ^ l)) mask pairs₀ values₀ h)
 
-  pub tau_no_room : (t ≢ 0) → TiledWritten slots l (tau_rep (2 ^ l)) pairs₀ pairs₀ values₀ values₀ (Refused t)
-  tau_no_room n = tiled_then j (tau_rep (2 ^ l)) pairs₀ values₀ z (written_refused tau_room n)
+  pub tau_no_room : {x : Refusal} → t ≡ Err x → TiledWritten slots l (tau_rep (2 ^ l)) pairs₀ pairs₀ values₀ values₀ (Err x)
+  tau_no_room n = tiled_then slots l (tau_rep (2 ^ l)) pairs₀ values₀ z (written_refused (judged_some tau_room n))
 
-  pub tau_written : {pairs₁ values₁ : List ℕ} → t ≡ 0 → pairs₁ ≡ in_front (row_pairs (steps (2 ^ l)) (2 ^ l) (2 ^ l)) pairs₀ → values₁ ≡ filled (row_value (2 ^ l) mask) (2 ^ l * 2 ^ l) values₀
-      → TiledWritten slots l (tau_rep (2 ^ l)) pairs₀ pairs₁ values₀ values₁ (Is (2 ^ l))
+  pub tau_written : {pairs₁ front : List ℕ} → t ≡ Ok tt → pairs₁ ≡ in_front (row_pairs (steps (2 ^ l)) (2 ^ l) (2 ^ l)) pairs₀ → front ≡ tabulate (2 ^ l * 2 ^ l) (row_value (2 ^ l) mask)
+      → TiledWritten slots l (tau_rep (2 ^ l)) pairs₀ pairs₁ values₀ (front ++ drop (2 ^ l * 2 ^ l) values₀) (Ok (2 ^ l))
   tau_written e p v =
-      let q : first_refusal (map_room (tau_rep (2 ^ l)) pairs₀ values₀) ≡ 0 = sym tau_room ∙ e in
-      tiled_then j (tau_rep (2 ^ l)) pairs₀ values₀ z (rw (tau_is (2 ^ l)) (rows_written (2 ^ l) (2 ^ l) (steps (2 ^ l)) mask (side_pos l) (rw (tau_is (2 ^ l)) at q) p v))
+      let q : first_refusal (map_room (tau_rep (2 ^ l)) pairs₀ values₀) ≡ None = judged_none tau_room e in
+      tiled_then slots l (tau_rep (2 ^ l)) pairs₀ values₀ z (rw (tau_is (2 ^ l)) (rows_written (2 ^ l) (2 ^ l) (steps (2 ^ l)) mask (side_pos l) (rw (tau_is (2 ^ l)) at q) p v))
 
 -- ---- the rotation of rows
 
@@ -48,33 +49,30 @@ one_front : (old : List ℕ) (a : ℕ) → 1 ≤ length old → slice_set old 0 
 unfolding in_front
 one_front old a h = in_front_more [] old 0 a refl h
 
-module _ {slots l r : ℕ} (j : TilesJudged slots l 1 r) (k : ℕ) (pairs₀ values₀ : List ℕ) where
+module _ (slots l : ℕ) (k : ℕ) (pairs₀ values₀ : List ℕ) where
   abbrev shift : Diagonal
   shift = record { offset = k * 2 ^ l % slots; values = 1 ∷ [] }
 
-  abbrev rest : List (Bool × ℕ)
-  rest = (nat_lt k 1 || not (nat_lt k (2 ^ l)), 6) ∷ map_room (rotate_rows_rep slots (2 ^ l) k) pairs₀ values₀
+  abbrev rest : List (Bool × Refusal)
+  rest = (nat_lt k 1 || not (nat_lt k (2 ^ l)), Shift) ∷ map_room (rotate_rows_rep slots (2 ^ l) k) pairs₀ values₀
 
-  abbrev Rows : List ℕ → List ℕ → Answer → Type 0
+  abbrev Rows : List ℕ → List ℕ → Result ℕ Refusal → Type 0
   Rows p v a = RowsRepWritten slots l k pairs₀ p values₀ v a
 
-  pub rows_refused : (r ≢ 0) → Rows pairs₀ values₀ (Refused r)
-  rows_refused h = written_refused (tiles_first j rest h) h
+  module _ {t : Result Unit Refusal} (z : first_refusal (tile_refusals slots l 1) ≡ None) {d : ℕ} (e : d ≡ 2 ^ l) (low : 1 ≤ k) (high : k < d) (h : RoomJudged 1 1 (length pairs₀) (length values₀) t) where
+    shifted : (nat_lt k 1 || not (nat_lt k (2 ^ l))) ≡ false
+    shifted = rw (le-ltb k 1 low, ← e, lt-ltb k d high)
 
-  pub rows_no_shift : r ≡ 0 → (nat_lt k 1 || not (nat_lt k (2 ^ l))) ≡ true → Rows pairs₀ values₀ (Refused 6)
-  rows_no_shift z e = written_refused (sym (tiles_later j rest z ∙ rw e)) (suc-ne-zero 5)
-
-  module _ {t : ℕ} (z : r ≡ 0) (s : (nat_lt k 1 || not (nat_lt k (2 ^ l))) ≡ false) (h : RoomJudged 1 1 (length pairs₀) (length values₀) t) where
-    rows_refusal : rows_rep_refusal slots l k pairs₀ values₀ ≡ t
+    rows_refusal : t ≡ judged (rows_rep_refusal slots l k pairs₀ values₀)
     unfolding rotate_rows_rep
-    rows_refusal = tiles_later j rest z ∙ rw s (sym (room_of (shift ∷ []) pairs₀ values₀ refl (sym (ap length (values_one shift))) h))
+    rows_refusal = rw (first_later (tile_refusals slots l 1) rest z, shifted) (room_of (shift ∷ []) pairs₀ values₀ refl (sym (ap length (values_one shift))) h)
 
-    pub rows_no_room : (t ≢ 0) → Rows pairs₀ values₀ (Refused t)
-    rows_no_room n = written_refused (sym rows_refusal) n
+    pub rows_no_room : {x : Refusal} → t ≡ Err x → Rows pairs₀ values₀ (Err x)
+    rows_no_room n = written_refused (judged_some rows_refusal n)
 
-    pub rows_shifted : {pairs₁ : List ℕ} → t ≡ 0 → pairs₁ ≡ put_pair pairs₀ 0 (k * 2 ^ l % slots) 1 → Rows pairs₁ (slice_set values₀ 0 1) (Is 1)
+    pub rows_shifted : {pairs₁ : List ℕ} → t ≡ Ok tt → pairs₁ ≡ put_pair pairs₀ 0 (k * d % slots) 1 → Rows pairs₁ (slice_set values₀ 0 1) (Ok 1)
     unfolding rotate_rows_rep
-    rows_shifted e p = one_written shift (rows_refusal ∙ e) p (h.pairs_fit e) (one_front values₀ 1 (h.values_fit e))
+    rows_shifted q p = one_written shift (judged_none rows_refusal q) (rw (← e) p) (h.pairs_fit q) (one_front values₀ 1 (h.values_fit q))
 
 -- ---- the left product
 
@@ -93,29 +91,22 @@ turned_low d x h =
     let t : ℕ = x % (d * d) in
     place_low d (t / d) ((t / d + x / (d * d)) % d) ((div-lt_iff_lt-mul h).1 (mod-lt x (mul-pos h h))) (mod-lt (t / d + x / (d * d)) h)
 
-module _ {slots l r : ℕ} (j : TilesJudged slots l 1 r) (b pairs₀ values₀ : List ℕ) where
-  abbrev behind : List (Bool × ℕ)
-  behind = (no_matrices l 1 b, 7) ∷ map_room (left_mul_rep (2 ^ l) b) pairs₀ values₀
+module _ (slots l : ℕ) (b pairs₀ values₀ : List ℕ) where
+  abbrev behind : List (Bool × Refusal)
+  behind = (no_matrices l 1 b, Length) ∷ map_room (left_mul_rep (2 ^ l) b) pairs₀ values₀
 
-  abbrev Left : List ℕ → List ℕ → Answer → Type 0
+  abbrev Left : List ℕ → List ℕ → Result ℕ Refusal → Type 0
   Left p v a = LeftMulRepWritten slots l b pairs₀ p values₀ v a
 
-  pub left_refused : (r ≢ 0) → Left pairs₀ values₀ (Refused r)
-  left_refused h = written_refused (tiles_first j behind h) h
-
-  pub left_no_matrix : r ≡ 0 → (length b ≢ 2 ^ l * 2 ^ l) → Left pairs₀ values₀ (Refused 7)
-  left_no_matrix z n = written_refused (sym (tiles_later j behind z ∙ rw (one-mul, ne_eqb (length b) (2 ^ l * 2 ^ l) n))) (suc-ne-zero 6)
-
-  module _ {t : ℕ} (z : r ≡ 0) (s : length b ≡ 2 ^ l * 2 ^ l) (h : RoomJudged (2 ^ l) (2 ^ l * (2 ^ l * 2 ^ l)) (length pairs₀) (length values₀) t) where
-    left_refusal : left_mul_rep_refusal slots l b pairs₀ values₀ ≡ t
+  module _ {t : Result Unit Refusal} (z : first_refusal (tile_refusals slots l 1) ≡ None) (s : length b ≡ 2 ^ l * 2 ^ l) (h : RoomJudged (2 ^ l) (2 ^ l * (2 ^ l * 2 ^ l)) (length pairs₀) (length values₀) t) where
+    left_refusal : t ≡ judged (left_mul_rep_refusal slots l b pairs₀ values₀)
     left_refusal =
-        tiles_later j behind z
-        ∙ rw (one-mul, eq-eqb (length b) (2 ^ l * 2 ^ l) s, left_is (2 ^ l) b) (sym (room_rows (2 ^ l) (2 ^ l * 2 ^ l) (steps (2 ^ l)) (turned_at (2 ^ l) b) pairs₀ values₀ h))
+        rw (first_later (tile_refusals slots l 1) behind z, one-mul, eq-eqb (length b) (2 ^ l * 2 ^ l) s, left_is (2 ^ l) b) (room_rows (2 ^ l) (2 ^ l * 2 ^ l) (steps (2 ^ l)) (turned_at (2 ^ l) b) pairs₀ values₀ h)
 
-    pub left_no_room : (t ≢ 0) → Left pairs₀ values₀ (Refused t)
-    left_no_room n = written_refused (sym left_refusal) n
+    pub left_no_room : {x : Refusal} → t ≡ Err x → Left pairs₀ values₀ (Err x)
+    left_no_room n = written_refused (judged_some left_refusal n)
 
-    pub left_written : {pairs₁ values₁ : List ℕ} → t ≡ 0 → pairs₁ ≡ in_front (row_pairs (steps (2 ^ l)) (2 ^ l * 2 ^ l) (2 ^ l)) pairs₀ → values₁ ≡ filled (row_value (2 ^ l * 2 ^ l) (turned_at (2 ^ l) b)) (2 ^ l * (2 ^ l * 2 ^ l)) values₀ → Left pairs₁ values₁ (Is (2 ^ l))
-    left_written {pairs₁} {values₁} e p v =
-        subst (λ ds. MapWritten (left_mul_rep_refusal slots l b pairs₀ values₀) ds pairs₀ pairs₁ values₀ values₁ (Is (2 ^ l))) (sym (left_is (2 ^ l) b))
-        (rows_written (2 ^ l) (2 ^ l * 2 ^ l) (steps (2 ^ l)) (turned_at (2 ^ l) b) (square_pos l) (left_refusal ∙ e) p v)
+    pub left_written : {pairs₁ front : List ℕ} → t ≡ Ok tt → pairs₁ ≡ in_front (row_pairs (steps (2 ^ l)) (2 ^ l * 2 ^ l) (2 ^ l)) pairs₀ → front ≡ tabulate (2 ^ l * (2 ^ l * 2 ^ l)) (row_value (2 ^ l * 2 ^ l) (turned_at (2 ^ l) b)) → Left pairs₁ (front ++ drop (2 ^ l * (2 ^ l * 2 ^ l)) values₀) (Ok (2 ^ l))
+    left_written {pairs₁} {front} e p v =
+        subst (λ ds. MapWritten (left_mul_rep_refusal slots l b pairs₀ values₀) ds pairs₀ pairs₁ values₀ (front ++ drop (2 ^ l * (2 ^ l * 2 ^ l)) values₀) (Ok (2 ^ l))) (sym (left_is (2 ^ l) b))
+        (rows_written (2 ^ l) (2 ^ l * 2 ^ l) (steps (2 ^ l)) (turned_at (2 ^ l) b) (square_pos l) (judged_none left_refusal e) p v)

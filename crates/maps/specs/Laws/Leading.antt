@@ -1,15 +1,15 @@
 -- Laws of what a builder has written: the next call accepts it and reads the map, so that its product is the map's formula.
 -- Assumes nothing.
-use Rattle.std.specs.Prelude.{◌≡◌, ℕ, ◌+◌, ◌-◌, ◌*◌, ◌^◌, ◌<◌, ◌≤◌, false, List, ◌++◌, length, take, drop, ℤ}
-use Rattle.std.proofs.Common.{sym, ap, ◌∙◌, suc-ne-zero, arith, ltb-false, length-append}
+use Rattle.std.specs.Prelude.{◌≡◌, ℕ, ◌+◌, ◌-◌, ◌*◌, ◌^◌, ◌<◌, ◌≤◌, false, List, ◌++◌, length, take, drop, ℤ, Option, None, Result, Ok}
+use Rattle.std.proofs.Common.{sym, ap, ◌∙◌, arith, ltb-false, length-append}
 use mathlib.Core.List.{append_assoc}
 use Rattle.std.proofs.lemmas.List.{length-map}
+use Rattle.ring.specs.declared.refusal.Refusal.{Refusal}
+use Rattle.ring.specs.declared.refusal.Refusal.TheVariants.{Slots, Period, Matrices, Shift}
 use Rattle.ring.specs.Slots.{modulus}
 use Rattle.ring.specs.Lists.{sum_by}
 use Rattle.ring.specs.Vectors.{in_front}
 use Rattle.ring.specs.Refusals.{pick, outside, no_period}
-use Rattle.ring.specs.declared.Answer.{Answer}
-use Rattle.ring.specs.declared.Answer.TheVariants.{Is}
 use Rattle.ring.specs.Laws.Refusals.{on_accept_accepted, pick_none, inside}
 use Rattle.ring.specs.Laws.Answers.{answered_accepted}
 use Rattle.diagonals.specs.Maps.{Diagonal, pair_words, value_words, view, FormedMap}
@@ -51,14 +51,14 @@ module _ {slots : ℕ} (range : outside slots ≡ false) where
       (rw (view_words p v ds) f) in
       rw (ep, ev) (record { view_is = view_words p v ds; accepted = rw (range, means_formed slots (length ds) (pair_words ds ++ p) (value_words ds ++ v) formed) })
 
-  module _ {e : ℕ} {p₀ p₁ v₀ v₁ : List ℕ} {r : Answer} where
+  module _ {e : Option Refusal} {p₀ p₁ v₀ v₁ : List ℕ} {r : Result ℕ Refusal} where
     -- after a call that was not refused
-    pub written_holds : {ds : List Diagonal} → FormedMap slots ds → MapWritten e ds p₀ p₁ v₀ v₁ r → e ≡ 0 → Holds slots ds (length ds) p₁ v₁
+    pub written_holds : {ds : List Diagonal} → FormedMap slots ds → MapWritten e ds p₀ p₁ v₀ v₁ r → e ≡ None → Holds slots ds (length ds) p₁ v₁
     unfolding in_front
     written_holds {ds} f m z = front_holds (drop (length (pair_words ds)) p₀) (drop (length (value_words ds)) v₀) f (m.pairs ∙ on_accept_accepted e _ _ z) (m.values ∙ on_accept_accepted e _ _ z)
 
     -- and one that built a map and shrank it in its place
-    pub shrunk_holds : {whole : List Diagonal} → FormedMap slots whole → ShrunkWritten e whole p₀ p₁ v₀ v₁ r → e ≡ 0 → Holds slots (shrunk whole) (length whole) p₁ v₁
+    pub shrunk_holds : {whole : List Diagonal} → FormedMap slots whole → ShrunkWritten e whole p₀ p₁ v₀ v₁ r → e ≡ None → Holds slots (shrunk whole) (length whole) p₁ v₁
     unfolding in_front shrunk
     shrunk_holds {whole} f m z =
         let ps : List ℕ = pair_words (shrunk whole) in
@@ -70,35 +70,35 @@ module _ {slots : ℕ} (range : outside slots ≡ false) where
 -- ---- calls whose refusals begin with those of the tiling
 
 -- the refusal is x where it is not one of these
-module _ (slots l count x : ℕ) (z : pick (outside slots) 1 (pick (no_tiles slots l count) 5 x) ≡ 0) where
-  in_range_lem : (outside slots ≡ false) × (pick (no_tiles slots l count) 5 x ≡ 0)
-  in_range_lem = pick_none (outside slots) 1 _ (suc-ne-zero 0) z
+module _ (slots l count : ℕ) (x : Option Refusal) (z : pick (outside slots) Slots (pick (no_tiles slots l count) Matrices x) ≡ None) where
+  in_range_lem : (outside slots ≡ false) × (pick (no_tiles slots l count) Matrices x ≡ None)
+  in_range_lem = pick_none (outside slots) Slots _ z
 
-  tiled : (no_tiles slots l count ≡ false) × (x ≡ 0)
-  tiled = pick_none (no_tiles slots l count) 5 x (suc-ne-zero 4) in_range_lem.1
+  tiled : (no_tiles slots l count ≡ false) × (x ≡ None)
+  tiled = pick_none (no_tiles slots l count) Matrices x in_range_lem.1
 
   tiles_of : Tiles slots l count
   tiles_of = not_refused in_range_lem.0 tiled.0
 
   -- after such a call
-  tiled_holds : {e n : ℕ} {ds : List Diagonal} {p₀ p₁ v₀ v₁ : List ℕ} {r : Answer} → (Tiles slots l count → FormedMap slots ds) → length ds ≡ n → MapWritten e ds p₀ p₁ v₀ v₁ r → e ≡ 0 → Holds slots ds n p₁ v₁
+  tiled_holds : {e : Option Refusal} {n : ℕ} {ds : List Diagonal} {p₀ p₁ v₀ v₁ : List ℕ} {r : Result ℕ Refusal} → (Tiles slots l count → FormedMap slots ds) → length ds ≡ n → MapWritten e ds p₀ p₁ v₀ v₁ r → e ≡ None → Holds slots ds n p₁ v₁
   tiled_holds f q m w = rw q at (written_holds in_range_lem.0 (f tiles_of) m w)
 
 -- ---- the maps that read one entry or none
 
-module _ (slots l : ℕ) (rule : Rule) {p₀ p₁ v₀ v₁ : List ℕ} {r : Answer} (m : RuleWritten slots l rule p₀ p₁ v₀ v₁ r) (z : rule_refusal slots l rule p₀ v₀ ≡ 0) where
+module _ (slots l : ℕ) (rule : Rule) {p₀ p₁ v₀ v₁ : List ℕ} {r : Result ℕ Refusal} (m : RuleWritten slots l rule p₀ p₁ v₀ v₁ r) (z : rule_refusal slots l rule p₀ v₀ ≡ None) where
   tiles : Tiles slots l 1
   tiles = tiles_of slots l 1 _ z
 
   shift_low : made_shift rule (2 ^ l) ≤ 2 ^ l
-  shift_low = made_low rule (2 ^ l) (side_pos l) (ltb-false (shift_limit rule (2 ^ l)) (shift_of rule) (pick_none _ 6 _ (suc-ne-zero 5) (tiled slots l 1 _ z).1).0)
+  shift_low = made_low rule (2 ^ l) (side_pos l) (ltb-false (shift_limit rule (2 ^ l)) (shift_of rule) (pick_none _ Shift _ (tiled slots l 1 _ z).1).0)
 
   size : length (whole_map modulus slots (2 ^ l) rule) ≡ rule_count slots (2 ^ l) rule
   size = (whole_map_size modulus slots (2 ^ l) (side_pos l) (period_divides tiles) tiles.low rule shift_low).count
 
   -- the answer is the number of diagonals
-  pub rule_answer : r ≡ Is (rule_count slots (2 ^ l) rule)
-  rule_answer = m.answer ∙ sym (answered_accepted _ _ z) ∙ ap Is size
+  pub rule_answer : r ≡ Ok (rule_count slots (2 ^ l) rule)
+  rule_answer = m.answer ∙ sym (answered_accepted _ _ z) ∙ ap Ok size
 
   -- the buffers hold the map
   pub rule_holds : Holds slots (rule_map modulus slots (2 ^ l) rule) (rule_count slots (2 ^ l) rule) p₁ v₁
@@ -111,12 +111,12 @@ module _ (slots l : ℕ) (rule : Rule) {p₀ p₁ v₀ v₁ : List ℕ} {r : Ans
 
 -- ---- the maps of terms that every matrix slot shares
 
-module _ (slots l : ℕ) (is js ws : List ℕ) {p₀ p₁ v₀ v₁ : List ℕ} {r : Answer} (m : PerMatrixWritten slots l is js ws p₀ p₁ v₀ v₁ r) (z : per_matrix_refusal slots l is js ws p₀ v₀ ≡ 0) where
+module _ (slots l : ℕ) (is js ws : List ℕ) {p₀ p₁ v₀ v₁ : List ℕ} {r : Result ℕ Refusal} (m : PerMatrixWritten slots l is js ws p₀ p₁ v₀ v₁ r) (z : per_matrix_refusal slots l is js ws p₀ v₀ ≡ None) where
   terms_formed : FormedMap slots (matrix_terms_map slots l is js ws)
   terms_formed = slot_map_formed modulus slots (2 ^ l * 2 ^ l) (terms_of is js ws) (square_pos l) (period_divides (tiles_of slots l 1 _ z))
 
   -- the answer is the number of diagonals
-  pub terms_answer : r ≡ Is (length (matrix_terms_map slots l is js ws))
+  pub terms_answer : r ≡ Ok (length (matrix_terms_map slots l is js ws))
   terms_answer = m.answer ∙ sym (answered_accepted _ _ z)
 
   -- the buffers hold the shrunk map
@@ -132,7 +132,7 @@ module _ (slots l : ℕ) (is js ws : List ℕ) {p₀ p₁ v₀ v₁ : List ℕ} 
 
 -- ---- the products by public matrices
 
-module _ (slots l count : ℕ) (p : Product) (b : List ℕ) {p₀ p₁ v₀ v₁ : List ℕ} {r : Answer} (m : ProductWritten slots l count p b p₀ p₁ v₀ v₁ r) (z : product_refusal slots l count p b p₀ v₀ ≡ 0) where
+module _ (slots l count : ℕ) (p : Product) (b : List ℕ) {p₀ p₁ v₀ v₁ : List ℕ} {r : Result ℕ Refusal} (m : ProductWritten slots l count p b p₀ p₁ v₀ v₁ r) (z : product_refusal slots l count p b p₀ v₀ ≡ None) where
   sums_tiles : Tiles slots l count
   sums_tiles = tiles_of slots l count _ z
 
@@ -140,8 +140,8 @@ module _ (slots l count : ℕ) (p : Product) (b : List ℕ) {p₀ p₁ v₀ v₁
   sums_size = (product_map_size modulus slots (2 ^ l) count (side_pos l) sums_tiles.some sums_tiles.divides sums_tiles.low p b).count
 
   -- the answer is the number of diagonals
-  pub product_answer : r ≡ Is (product_count slots (2 ^ l) p)
-  product_answer = m.answer ∙ sym (answered_accepted _ _ z) ∙ ap Is sums_size
+  pub product_answer : r ≡ Ok (product_count slots (2 ^ l) p)
+  product_answer = m.answer ∙ sym (answered_accepted _ _ z) ∙ ap Ok sums_size
 
   -- the buffers hold the map
   pub product_holds : Holds slots (product_map modulus slots (2 ^ l) count p b) (product_count slots (2 ^ l) p) p₁ v₁
@@ -155,26 +155,26 @@ module _ (slots l count : ℕ) (p : Product) (b : List ℕ) {p₀ p₁ v₀ v₁
 
 -- ---- the maps on replicated inputs, and the projections: the buffers hold them
 
-module _ (slots l : ℕ) {p₀ p₁ v₀ v₁ : List ℕ} {r : Answer} where
-  pub tau_rep_holds : TiledWritten slots l (tau_rep (2 ^ l)) p₀ p₁ v₀ v₁ r → tiled_refusal slots l (tau_rep (2 ^ l)) p₀ v₀ ≡ 0 → Holds slots (tau_rep (2 ^ l)) (2 ^ l) p₁ v₁
+module _ (slots l : ℕ) {p₀ p₁ v₀ v₁ : List ℕ} {r : Result ℕ Refusal} where
+  pub tau_rep_holds : TiledWritten slots l (tau_rep (2 ^ l)) p₀ p₁ v₀ v₁ r → tiled_refusal slots l (tau_rep (2 ^ l)) p₀ v₀ ≡ None → Holds slots (tau_rep (2 ^ l)) (2 ^ l) p₁ v₁
   tau_rep_holds m z = tiled_holds slots l 1 _ z (λ t. tau_rep_formed slots (2 ^ l) (period_divides t) (side_pos l) t.low) (tau_rep_size (2 ^ l)).count m z
 
-  pub first_row_holds : TiledWritten slots l (first_row (2 ^ l)) p₀ p₁ v₀ v₁ r → tiled_refusal slots l (first_row (2 ^ l)) p₀ v₀ ≡ 0 → Holds slots (first_row (2 ^ l)) 1 p₁ v₁
+  pub first_row_holds : TiledWritten slots l (first_row (2 ^ l)) p₀ p₁ v₀ v₁ r → tiled_refusal slots l (first_row (2 ^ l)) p₀ v₀ ≡ None → Holds slots (first_row (2 ^ l)) 1 p₁ v₁
   first_row_holds m z = tiled_holds slots l 1 _ z (λ t. first_row_formed slots (2 ^ l) (period_divides t) (side_pos l) t.low) (first_row_size (2 ^ l)).count m z
 
-  pub first_col_holds : TiledWritten slots l (first_col (2 ^ l)) p₀ p₁ v₀ v₁ r → tiled_refusal slots l (first_col (2 ^ l)) p₀ v₀ ≡ 0 → Holds slots (first_col (2 ^ l)) 1 p₁ v₁
+  pub first_col_holds : TiledWritten slots l (first_col (2 ^ l)) p₀ p₁ v₀ v₁ r → tiled_refusal slots l (first_col (2 ^ l)) p₀ v₀ ≡ None → Holds slots (first_col (2 ^ l)) 1 p₁ v₁
   first_col_holds m z = tiled_holds slots l 1 _ z (λ t. first_col_formed slots (2 ^ l) (period_divides t) (side_pos l) t.low) (first_col_size (2 ^ l)).count m z
 
-  pub rotate_rows_rep_holds : (k : ℕ) → RowsRepWritten slots l k p₀ p₁ v₀ v₁ r → rows_rep_refusal slots l k p₀ v₀ ≡ 0 → Holds slots (rotate_rows_rep slots (2 ^ l) k) 1 p₁ v₁
+  pub rotate_rows_rep_holds : (k : ℕ) → RowsRepWritten slots l k p₀ p₁ v₀ v₁ r → rows_rep_refusal slots l k p₀ v₀ ≡ None → Holds slots (rotate_rows_rep slots (2 ^ l) k) 1 p₁ v₁
   rotate_rows_rep_holds k m z = tiled_holds slots l 1 _ z (λ t. rotate_rows_rep_formed slots (2 ^ l) (period_divides t) (side_pos l) t.low k) (rotate_rows_rep_size (2 ^ l) slots k).count m z
 
-  pub left_mul_rep_holds : (b : List ℕ) → LeftMulRepWritten slots l b p₀ p₁ v₀ v₁ r → left_mul_rep_refusal slots l b p₀ v₀ ≡ 0 → Holds slots (left_mul_rep (2 ^ l) b) (2 ^ l) p₁ v₁
+  pub left_mul_rep_holds : (b : List ℕ) → LeftMulRepWritten slots l b p₀ p₁ v₀ v₁ r → left_mul_rep_refusal slots l b p₀ v₀ ≡ None → Holds slots (left_mul_rep (2 ^ l) b) (2 ^ l) p₁ v₁
   left_mul_rep_holds b m z = tiled_holds slots l 1 _ z (λ t. left_mul_rep_formed slots (2 ^ l) (period_divides t) (side_pos l) t.low b) (left_mul_rep_size (2 ^ l) b).count m z
 
 -- and the products by slot vectors
-pub slot_product_holds : (slots : ℕ) (values : List ℕ) (rotation : ℤ) {p₀ p₁ v₀ v₁ : List ℕ} {r : Answer} → SlotProductWritten slots values rotation p₀ p₁ v₀ v₁ r → slot_product_refusal slots values rotation p₀ v₀ ≡ 0 → Holds slots (slot_product values rotation) 1 p₁ v₁
+pub slot_product_holds : (slots : ℕ) (values : List ℕ) (rotation : ℤ) {p₀ p₁ v₀ v₁ : List ℕ} {r : Result ℕ Refusal} → SlotProductWritten slots values rotation p₀ p₁ v₀ v₁ r → slot_product_refusal slots values rotation p₀ v₀ ≡ None → Holds slots (slot_product values rotation) 1 p₁ v₁
 slot_product_holds slots values rotation m z =
-    let o = pick_none (outside slots) 1 _ (suc-ne-zero 0) z in
+    let o = pick_none (outside slots) Slots _ z in
     let low : 1 ≤ slots = (inside slots o.0).0 in
-    let f = period_formed slots 0 values low (pick_none (no_period slots (length values)) 4 _ (suc-ne-zero 3) o.1).0 in
+    let f = period_formed slots 0 values low (pick_none (no_period slots (length values)) Period _ o.1).0 in
     rw (slot_product_size values rotation).count at (written_holds o.0 (slot_product_formed slots values rotation low f.some f.divides) m z)

@@ -1,19 +1,19 @@
 -- Laws of shrinking in place: a map of diagonals of one stored length moves to its common period, and the words that it
 -- leaves free lie before those that are kept.
 -- Assumes nothing.
-use Rattle.std.specs.Prelude.{◌≡◌, ℕ, zero, suc, ◌+◌, ◌-◌, ◌*◌, ◌/◌, ◌%◌, ◌<◌, ◌≤◌, List, ◌++◌, map, length, take, drop, ◌≢◌, slice_index, refl}
+use Rattle.std.specs.Prelude.{◌≡◌, ℕ, zero, suc, ◌+◌, ◌-◌, ◌*◌, ◌/◌, ◌%◌, ◌<◌, ◌≤◌, List, ◌++◌, map, length, take, drop, slice_index, refl, Option, None, Some, Result, Ok, Err}
 use Rattle.std.proofs.Math.Path.{sym, ap, subst}
-use Rattle.std.proofs.Common.{◌∙◌, append_assoc, zero-mul, suc-mul, mod-lt, mod-eq_of_lt, le_refl, mul-le-mul_right, div-lt_iff_lt-mul, add-one, arith, length-append, length-drop, take-append-drop, drop_at, drop-drop, length-take-le, get_or-take, get_or-drop}
-use Rattle.std.proofs.Math.Nat.{mod-add-div', add-mod_right, le_of_dvd, mul-le-mul_left}
+use Rattle.std.proofs.Common.{add-zero, ◌∙◌, append_assoc, zero-mul, suc-mul, mod-lt, mod-eq_of_lt, le_refl, mul-le-mul_right, div-lt_iff_lt-mul, add-one, arith, length-append, length-drop, take-append-drop, drop_at, drop-drop, length-take-le, get_or-take, get_or-drop}
+use Rattle.std.proofs.Math.Nat.{div-eq_of_lt, mul-add-div_right, mul-add-mod_self_right, mod-add-div', add-mod_right, le_of_dvd, mul-le-mul_left}
 use Rattle.std.proofs.lemmas.List.{length-map}
+use Rattle.ring.specs.declared.refusal.Refusal.{Refusal}
 use Rattle.ring.specs.Lists.{Each}
-use Rattle.ring.specs.Vectors.{tabulate, in_front, filled}
+use Rattle.ring.specs.Vectors.{tabulate, in_front, filled, Filling}
 use Rattle.ring.specs.Answers.{answered}
-use Rattle.ring.specs.declared.Answer.TheVariants.{Refused, Is}
 use Rattle.ring.specs.Laws.Lists.{each_then, tabulate_each}
-use Rattle.ring.specs.Laws.Vectors.{length_tabulate, map_tabulate, tabulate_cong, length_in_front, in_front_in_front, length_filled, filled_same}
+use Rattle.ring.specs.Laws.Vectors.{is_tabulate, filling_block, filling_rest, length_tabulate, map_tabulate, tabulate_cong, length_in_front, in_front_in_front, length_filled, filled_same}
 use Rattle.ring.specs.Laws.Refusals.{not_outside}
-use Rattle.ring.specs.Laws.Answers.{no_refused}
+use Rattle.ring.specs.Laws.Answers.{no_refused, same_value}
 use Rattle.diagonals.specs.Maps.{Diagonal, pair_room, offset_at, length_at, start_at, diagonal_at, view, WellFormed, pair_words, value_words, FormedMap}
 use Rattle.diagonals.specs.Products.{cell}
 use Rattle.diagonals.specs.Shrinking.{common_period, at_period, shrunk}
@@ -35,17 +35,28 @@ module _ {period p count : ℕ} {values : List ℕ} (n : Narrowing period p coun
   pub narrow_fits : count * p ≤ length values
   narrow_fits = omega (arith, mul-le-mul_left count n.narrow, n.inside)
 
-  module _ (x : ℕ) where
-    row_of : x < count * p → x / p < count
-    row_of l = (div-lt_iff_lt-mul n.some).1 l
+  module _ {i : ℕ} (l : i < count) where
+    -- a row, and where its words go
+    pub row_inside : i * period + p ≤ length values
+    row_inside = omega (arith, suc-mul i period, mul-le-mul_right period l, n.narrow, n.inside)
 
-    pub moved_inside : x < count * p → moved_from period p x < length values
-    moved_inside l =
-        omega (arith, suc-mul (x / p) period, mul-le-mul_right period (row_of l), mod-lt x n.some, n.narrow, n.inside)
+    pub row_behind : i * p ≤ i * period
+    row_behind = mul-le-mul_left i n.narrow
 
-    -- so it is not written yet
-    pub moved_behind : x ≤ moved_from period p x
-    moved_behind = omega (arith, mod-add-div' x p, mul-le-mul_left (x / p) n.narrow)
+    row_from : (x : ℕ) → x < p → moved_from period p (i * p + x) ≡ i * period + x
+    row_from x h = rw (mul-add-div_right n.some i x, mul-add-mod_self_right i p x, div-eq_of_lt h, mod-eq_of_lt h, add-zero i)
+
+    -- a row that is moved
+    pub row_moved : {now : List ℕ} → Filling (moved_at period p values) values now (i * p) → Filling (moved_at period p values) values ((take (i * p) now ++ take p (drop (i * period) now)) ++ drop (i * p + p) now) ((i + 1) * p)
+    row_moved {now} s =
+        rw (append_assoc (take (i * p) now) (take p (drop (i * period) now)) (drop (i * p + p) now), ← (drop-drop p (i * p) now))
+        (filling_block s p ((i + 1) * p) (take p (drop (i * period) now)) (omega (arith, suc-mul i p)) (omega (arith, suc-mul i p, row_inside, row_behind, s.len))
+        (is_tabulate p _ 0 (take p (drop (i * period) now)) (length-take-le p (drop (i * period) now) (omega (arith, length-drop (i * period) now, row_inside, s.len)))
+        (λ x h.
+        get_or-take p (drop (i * period) now) x 0 h
+        ∙ get_or-drop (i * period) now x 0
+        ∙ filling_rest s (i * period + x) 0 (omega (arith, row_behind))
+        ∙ ap (λ (y : ℕ). slice_index values y) (sym (row_from x h)))))
 
 -- ---- words left free
 
@@ -76,11 +87,15 @@ cell_turn v n t e = ap (λ (x : ℕ). slice_index v x) (ap (λ (m : ℕ). (t + n
 
 module _ {slots period count : ℕ} {pairs values : List ℕ} (e : Even slots period count pairs values) where
   -- it is not refused
-  pub even_answer : (v : ℕ) → answered (map_refusal slots count pairs values) v ≡ Is v
+  pub even_answer : (v : ℕ) → answered (map_refusal slots count pairs values) v ≡ Ok v
   even_answer v = rw (not_outside slots e.low e.high, means_formed slots count pairs values e.formed)
 
   abbrev ds : List Diagonal
   ds = view count pairs values
+
+  -- so its common period is told
+  pub even_period : {r : Result ℕ Refusal} {p : ℕ} → r ≡ Ok p → r ≡ answered (map_refusal slots count pairs values) (common_period ds) → p ≡ common_period ds
+  even_period h e = same_value (sym h ∙ e ∙ even_answer (common_period ds))
 
   somes : Each (λ d. 1 ≤ length d.values) ds
   somes = formed_some slots ds (formed_view slots count pairs values e.formed)
@@ -182,7 +197,7 @@ module _ {slots period : ℕ} (whole : List Diagonal) (p v : List ℕ) (low : 1 
   even_words = record { low = low; high = high; some = some; small = small; formed = formed; stored = stored }
 
   -- and what the call then has written
-  pub shrunk_written : {e : ℕ} {p₂ v₂ : List ℕ} → e ≡ 0 → Shrank period (length whole) (in_front (pair_words whole) p) p₂ (in_front (value_words whole) v) v₂ → ShrunkWritten e whole p p₂ v v₂ (Is (length whole))
+  pub shrunk_written : {e : Option Refusal} {p₂ v₂ : List ℕ} → e ≡ None → Shrank period (length whole) (in_front (pair_words whole) p) p₂ (in_front (value_words whole) v) v₂ → ShrunkWritten e whole p p₂ v v₂ (Ok (length whole))
   unfolding shrunk
   shrunk_written {p₂} {v₂} z s =
       let total : length (value_words whole) ≡ length whole * period = length_value_words period whole each in
@@ -204,11 +219,10 @@ module _ {slots period : ℕ} (whole : List Diagonal) (p v : List ℕ) (low : 1 
       })
 
 -- a refused call leaves the buffers as they were
-pub shrunk_refused : {e r : ℕ} {whole : List Diagonal} {p v : List ℕ} → r ≡ e → (r ≢ 0) → ShrunkWritten e whole p p v v (Refused r)
-shrunk_refused {r = zero} e h = absurd (h refl)
-shrunk_refused {r = suc r} e h = rw (← e) (record { answer = refl; pairs = refl; values = refl })
+pub shrunk_refused : {e : Option Refusal} {x : Refusal} {whole : List Diagonal} {p v : List ℕ} → e ≡ Some x → ShrunkWritten e whole p p v v (Err x)
+shrunk_refused h = rw h (record { answer = refl; pairs = refl; values = refl })
 
 -- and so does one whose building was refused
-pub build_refused : {e x : ℕ} {whole : List Diagonal} {p p₁ v v₁ : List ℕ} → MapWritten e whole p p₁ v v₁ (Refused x) → ShrunkWritten e whole p p₁ v v₁ (Refused x)
-build_refused {e = zero} m = no_refused m.answer
-build_refused {e = suc e} m = record { answer = m.answer; pairs = m.pairs; values = m.values }
+pub build_refused : {e : Option Refusal} {x : Refusal} {whole : List Diagonal} {p p₁ v v₁ : List ℕ} → MapWritten e whole p p₁ v v₁ (Err x) → ShrunkWritten e whole p p₁ v v₁ (Err x)
+build_refused {e = None} m = no_refused m.answer
+build_refused {e = Some e} m = record { answer = m.answer; pairs = m.pairs; values = m.values }

@@ -1,27 +1,26 @@
 -- Laws of diagonals of one stored length: their words, the room they take, and loops that write their pairs.
 -- Assumes nothing.
-use Rattle.std.specs.Prelude.{◌≡◌, ℕ, ◌+◌, ◌*◌, ◌/◌, ◌%◌, ◌<◌, ◌≤◌, List, [], ◌∷◌, length, ◌≢◌, slice_index}
+use Rattle.std.specs.Prelude.{◌≡◌, ℕ, ◌+◌, ◌*◌, ◌/◌, ◌%◌, ◌<◌, ◌≤◌, List, [], ◌∷◌, ◌++◌, length, drop, slice_index, Option, None, Result, Ok}
 use Rattle.std.proofs.Math.Path.{refl, sym, ap}
 use Rattle.std.proofs.Common.{subst, ◌∙◌, append-nil, div-lt_iff_lt-mul}
+use Rattle.ring.specs.declared.refusal.Refusal.{Refusal}
 use Rattle.ring.specs.Lists.{join}
 use Rattle.ring.specs.Vectors.{tabulate, in_front, filled, Filling}
 use Rattle.ring.specs.Refusals.{first_refusal}
-use Rattle.ring.specs.declared.Answer.{Answer}
-use Rattle.ring.specs.declared.Answer.TheVariants.{Refused, Is}
+use Rattle.ring.specs.Answers.{judged}
+use Rattle.ring.specs.Laws.Refusals.{first_later}
 use Rattle.ring.specs.Laws.Lists.{join_map, join_cong, each_tabulate}
-use Rattle.ring.specs.Laws.Vectors.{length_tabulate, get_or_tabulate, map_tabulate, tabulate_cong, tabulate_more, join_tables, filled_front}
+use Rattle.ring.specs.Laws.Vectors.{length_tabulate, get_or_tabulate, map_tabulate, tabulate_cong, tabulate_more, join_tables}
 use Rattle.diagonals.specs.Maps.{Diagonal, offset_at, pair_room, put_pair, pair_of, pair_words, value_words}
 use Rattle.diagonals.specs.SlotMaps.{zeros_at, zero_map}
 use Rattle.diagonals.specs.Calls.{map_room, RoomJudged, MapWritten}
-use Rattle.diagonals.specs.Laws.Calls.{room_of, written_refused, written_accepted}
+use Rattle.diagonals.specs.Laws.Calls.{room_of, written_accepted}
 use Rattle.diagonals.specs.Laws.Pairs.{length_pair_words, pair_alike, length_put, put_more, put_only, offset_old}
 use Rattle.diagonals.specs.Laws.Words.{pair_words_more}
 use Rattle.diagonals.specs.Laws.Writing.{length_value_words}
 use Rattle.diagonals.specs.Laws.SlotMaps.{zero_map_count, zero_map_more}
-use Rattle.maps.specs.Calls.{TiledWritten}
-use Rattle.maps.specs.Steps.Tiles.{TilesJudged}
+use Rattle.maps.specs.Calls.{tile_refusals, TiledWritten}
 use Rattle.maps.specs.Steps.Rows.{rows, row_pairs, row_value}
-use Rattle.maps.specs.Laws.Tiling.{tiles_first, tiles_later}
 
 -- ---- words
 
@@ -62,7 +61,7 @@ module _ (n p : ℕ) (o : ℕ → ℕ) (v : ℕ → ℕ → ℕ) where
       ∙ ap (λ (m : ℕ). m * p) length_rows
 
   -- the room that they take
-  pub room_rows : (pairs values : List ℕ) {r : ℕ} → RoomJudged n (n * p) (length pairs) (length values) r → r ≡ first_refusal (map_room (rows n p o v) pairs values)
+  pub room_rows : (pairs values : List ℕ) {r : Result Unit Refusal} → RoomJudged n (n * p) (length pairs) (length values) r → r ≡ judged (first_refusal (map_room (rows n p o v) pairs values))
   room_rows pairs values j = room_of (rows n p o v) pairs values (sym length_rows) (sym length_values_rows) j
 
 -- ---- loops that write pairs
@@ -113,20 +112,18 @@ filled_upto s e = rw (← e) s.so_far
 
 -- ---- what a call has written
 
-pub one_written : {e : ℕ} (d : Diagonal) {pairs₀ pairs₁ values₀ values₁ : List ℕ} → e ≡ 0 → pairs₁ ≡ put_pair pairs₀ 0 d.offset (length d.values) → pair_room 1 ≤ length pairs₀ → values₁ ≡ in_front d.values values₀ → MapWritten e (d ∷ []) pairs₀ pairs₁ values₀ values₁ (Is 1)
+pub one_written : {e : Option Refusal} (d : Diagonal) {pairs₀ pairs₁ values₀ values₁ : List ℕ} → e ≡ None → pairs₁ ≡ put_pair pairs₀ 0 d.offset (length d.values) → pair_room 1 ≤ length pairs₀ → values₁ ≡ in_front d.values values₀ → MapWritten e (d ∷ []) pairs₀ pairs₁ values₀ values₁ (Ok 1)
 one_written d {pairs₀} e p h v = written_accepted e refl (p ∙ put_only d pairs₀ h) (rw values_one v)
 
-pub rows_written : {e : ℕ} (n p : ℕ) (o : ℕ → ℕ) (v : ℕ → ℕ → ℕ) {pairs₀ pairs₁ values₀ values₁ : List ℕ} → 0 < p → e ≡ 0 → pairs₁ ≡ in_front (row_pairs o p n) pairs₀ → values₁ ≡ filled (row_value p v) (n * p) values₀ → MapWritten e (rows n p o v) pairs₀ pairs₁ values₀ values₁ (Is n)
+pub rows_written : {e : Option Refusal} (n p : ℕ) (o : ℕ → ℕ) (v : ℕ → ℕ → ℕ) {pairs₀ pairs₁ values₀ front : List ℕ} → 0 < p → e ≡ None → pairs₁ ≡ in_front (row_pairs o p n) pairs₀ → front ≡ tabulate (n * p) (row_value p v) → MapWritten e (rows n p o v) pairs₀ pairs₁ values₀ (front ++ drop (n * p) values₀) (Ok n)
+unfolding in_front
 rows_written n p o v {values₀} h e a b =
     written_accepted e (sym (length_rows n p o v))
     (rw (pairs_rows n p o v) a)
-    (rw (values_rows n p o v h) (b ∙ filled_front (row_value p v) (n * p) values₀))
+    (rw (values_rows n p o v h, b, length_tabulate))
 
 -- ---- maps of one matrix that have no further arguments
 
-module _ {slots l r : ℕ} (j : TilesJudged slots l 1 r) (ds : List Diagonal) (pairs values : List ℕ) where
-  pub tiled_refused : (r ≢ 0) → TiledWritten slots l ds pairs pairs values values (Refused r)
-  tiled_refused h = written_refused (tiles_first j (map_room ds pairs values) h) h
-
-  pub tiled_then : {pairs₁ values₁ : List ℕ} {a : Answer} → r ≡ 0 → MapWritten (first_refusal (map_room ds pairs values)) ds pairs pairs₁ values values₁ a → TiledWritten slots l ds pairs pairs₁ values values₁ a
-  tiled_then {pairs₁} {values₁} {a} z m = subst (λ (e : ℕ). MapWritten e ds pairs pairs₁ values values₁ a) (sym (tiles_later j (map_room ds pairs values) z)) m
+module _ (slots l : ℕ) (ds : List Diagonal) (pairs values : List ℕ) where
+  pub tiled_then : {pairs₁ values₁ : List ℕ} {a : Result ℕ Refusal} → first_refusal (tile_refusals slots l 1) ≡ None → MapWritten (first_refusal (map_room ds pairs values)) ds pairs pairs₁ values values₁ a → TiledWritten slots l ds pairs pairs₁ values values₁ a
+  tiled_then {pairs₁} {values₁} {a} z m = subst (λ (e : Option Refusal). MapWritten e ds pairs pairs₁ values values₁ a) (sym (first_later (tile_refusals slots l 1) (map_room ds pairs values) z)) m

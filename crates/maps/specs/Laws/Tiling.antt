@@ -1,15 +1,18 @@
 -- Laws of the tiling: how large a side is, and refusals behind that of the tiling.
 -- Assumes nothing.
-use Rattle.std.specs.Prelude.{◌≡◌, ℕ, suc, ◌*◌, ◌^◌, ◌<◌, ◌≤◌, Bool, false, not, ◌||◌, List, ◌++◌, ◌==◌, ◌≢◌, nat_lt}
-use Rattle.std.proofs.Common.{sym, ◌∙◌, suc-ne-zero, mul-le-mul, mul-pos, le-mul_of_pos_right, mod-eq_of_lt, arith, pow_pos, ne_eqb, ltb-false}
+use Rattle.std.specs.Prelude.{◌≡◌, ℕ, ◌*◌, ◌^◌, ◌<◌, ◌≤◌, false, not, ◌||◌, ◌==◌, nat_lt, Some, Result, Err, None}
+use Rattle.std.proofs.Common.{ap, ◌∙◌, mul-le-mul, mul-pos, le-mul_of_pos_right, mod-eq_of_lt, arith, pow_pos, ne_eqb, ltb-false}
 use Rattle.std.proofs.Math.Nat.{pow-le-pow_right, le_of_dvd}
 use Rattle.std.proofs.lemmas.Bool.{eqb-false, not-false}
+use Rattle.ring.specs.declared.refusal.Refusal.{Refusal}
 use Rattle.ring.specs.Divisors.{divides}
 use Rattle.ring.specs.Refusals.{first_refusal, outside}
-use Rattle.ring.specs.Laws.Refusals.{first_refused, first_later, either, inside}
+use Rattle.ring.specs.Laws.Refusals.{either, inside, none_holds}
 use Rattle.ring.specs.Laws.Divisors.{divides_dvd}
+use Rattle.ring.specs.Laws.Answers.{no_refused}
+use Rattle.maps.specs.declared.side.Side.{Side}
 use Rattle.maps.specs.Calls.{no_tiles, tile_refusals}
-use Rattle.maps.specs.Steps.Tiles.{Tiles, Tiling, TilesJudged}
+use Rattle.maps.specs.Steps.Tiles.{Tiles, Tiling, Tiled, TilesJudged}
 
 -- ---- sides and squares
 
@@ -51,9 +54,6 @@ few_slots slots l count h k =
     let m : slots < count * (2 ^ l * 2 ^ l) = omega (arith, le-mul_of_pos_right count (square_pos l)) in
     rw (mod-eq_of_lt m) (ne_eqb slots 0 (λ (e : slots ≡ 0). omega arith))
 
-pub tiles_refused : {slots l count r : ℕ} → suc r ≡ first_refusal (tile_refusals slots l count) → TilesJudged slots l count (suc r)
-tiles_refused {r} e = record { answer = e; tiles = λ h. absurd (suc-ne-zero r h) }
-
 pub not_refused : {slots l count : ℕ} → outside slots ≡ false → no_tiles slots l count ≡ false → Tiles slots l count
 not_refused {slots} {l} {count} o h =
     let a = either (nat_lt 8 l || count == 0) (not (divides (count * (2 ^ l * 2 ^ l)) slots)) h in
@@ -66,11 +66,21 @@ not_refused {slots} {l} {count} o h =
       divides = divides_dvd _ slots (not-false _ a.1);
     }
 
--- ---- further refusals
+pub tiles_of : {slots l count : ℕ} → first_refusal (tile_refusals slots l count) ≡ None → Tiles slots l count
+tiles_of {slots} {l} {count} z =
+    let h = none_holds (tile_refusals slots l count) z in
+    not_refused h.0 h.1.0
 
-module _ {slots l count r : ℕ} (j : TilesJudged slots l count r) (cs : List (Bool × ℕ)) where
-  pub tiles_first : (r ≢ 0) → r ≡ first_refusal (tile_refusals slots l count ++ cs)
-  tiles_first h = j.answer ∙ sym (first_refused (tile_refusals slots l count) cs (λ z. h (j.answer ∙ z)))
+module _ {slots l count : ℕ} {side : Side} (t : Tiled slots l count side) where
+  -- its numbers by the call's log_d
+  pub rows_are : {d : ℕ} → d ≡ 2 ^ side.log_d → d ≡ 2 ^ l
+  rows_are e = rw (← t.log_is) e
 
-  pub tiles_later : r ≡ 0 → first_refusal (tile_refusals slots l count ++ cs) ≡ first_refusal cs
-  tiles_later h = first_later (tile_refusals slots l count) cs (suc-ne-zero 0, (suc-ne-zero 4, tt)) (sym j.answer ∙ h)
+  pub size_is : {n : ℕ} → n ≡ 2 ^ side.log_d * 2 ^ side.log_d → n ≡ 2 ^ l * 2 ^ l
+  size_is e = rw (← t.log_is) e
+
+pub same_refusal : {A : Type 0} {x y : Refusal} → ◌≡◌ {A = Result A Refusal} (Err x) (Err y) → x ≡ y
+same_refusal h = cc
+
+pub tiles_refused : {slots l count : ℕ} {x : Refusal} → first_refusal (tile_refusals slots l count) ≡ Some x → TilesJudged slots l count (Err x)
+tiles_refused e = record { refused = λ y h. e ∙ ap Some (same_refusal h); accepted = λ s h. no_refused h }

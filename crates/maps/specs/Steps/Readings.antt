@@ -1,15 +1,15 @@
 -- What the private steps of the maps that read one entry or none ask and ensure.
 -- Assumes nothing.
-use Rattle.std.specs.Prelude.{◌≡◌, ℕ, ◌*◌, ◌^◌, ◌<◌, ◌≤◌, Bool, List, [], ◌∷◌, ◌++◌, map}
-use Rattle.ring.specs.Searches.{only}
-use Rattle.ring.specs.Slots.{modulus}
+use Rattle.std.specs.Prelude.{◌≡◌, ℕ, ◌/◌, ◌%◌, ◌<◌, ◌≤◌, Bool, List, [], ◌∷◌, ◌++◌, Option, None, Some, Result, Ok, Err}
+use Rattle.ring.specs.declared.refusal.Refusal.{Refusal}
+use Rattle.ring.specs.declared.refusal.Refusal.TheVariants.{Shift}
 use Rattle.ring.specs.Refusals.{first_refusal}
-use Rattle.diagonals.specs.Building.{PlacesOf, SumsOf}
 use Rattle.maps.specs.declared.rules.Rule.{Rule}
-use Rattle.maps.specs.Entries.{place}
-use Rattle.maps.specs.Readings.{reading, reads, rule_terms, made_shift}
+use Rattle.maps.specs.declared.reads.Reads.{Reads}
+use Rattle.maps.specs.declared.building.Summand.{Summand}
+use Rattle.maps.specs.Entries.{Entry, place}
+use Rattle.maps.specs.Readings.{reads}
 use Rattle.maps.specs.Calls.{tile_refusals, no_shift}
-use Rattle.maps.specs.Steps.Tiles.{Tiling}
 
 -- an entry of a matrix whose side is small
 pub record Within (d r c : ℕ) : Type 0 where
@@ -17,37 +17,30 @@ pub record Within (d r c : ℕ) : Type 0 where
   pub row_low : r < d
   pub col_low : c < d
 
--- the place of an entry that is read, or none
-pub record EntryIs (d r c : ℕ) (read there : Bool) (j : ℕ) : Type 0 where
-  pub is : map (place d) (reading read r c) ≡ only there j
-  pub low : j < d * d
+-- the place of the entry that is read, if one is
+unfoldable pub place_of : ℕ → List Entry → Option ℕ
+place_of d [] = None
+place_of d (e ∷ es) = Some (place d e)
 
--- the place that output (r, c) reads, if any
-pub record ReadIs (rule : Rule) (d r c : ℕ) (there : Bool) (j : ℕ) : Type 0 where
-  pub is : map (place d) (reads rule d r c) ≡ only there j
-  pub low : j < d * d
+-- and what it adds
+abbrev pub added : Option ℕ → Option Summand
+added None = None
+added (Some j) = Some (record { j = j; w = 1 })
 
--- what a rule that is not refused is
-pub record Ruled (slots d : ℕ) (rule : Rule) : Type 0 where
-  pub tiles : Tiling slots d 1
-  pub shift_low : made_shift rule d ≤ d
-
--- the shift that it makes
-pub record Makes (rule : Rule) (d k : ℕ) : Type 0 where
-  pub is : k ≡ made_shift rule d
-  pub low : k ≤ d
-
--- places for the terms, and zeros for their values
-pub record RuleSumming (slots d : ℕ) (rule : Rule) (places values : List ℕ) : Type 0 where
-  pub ruled : Ruled slots d rule
-  pub placed : PlacesOf slots (rule_terms rule d) places
-  pub zeros : SumsOf modulus slots (d * d) (rule_terms rule d) [] values values
+abbrev pub read_summand : Rule → ℕ → ℕ → Option Summand
+read_summand rule d t = added (place_of d (reads rule d (t / d) (t % d)))
 
 -- the refusals of a rule, before the room is known
-abbrev pub rule_refusals : ℕ → ℕ → Rule → List (Bool × ℕ)
-rule_refusals slots log_d rule = tile_refusals slots log_d 1 ++ (no_shift log_d rule, 6) ∷ []
+abbrev pub rule_refusals : ℕ → ℕ → Rule → List (Bool × Refusal)
+rule_refusals slots log_d rule = tile_refusals slots log_d 1 ++ (no_shift log_d rule, Shift) ∷ []
 
-pub record RuleJudged (slots log_d : ℕ) (rule : Rule) (r : ℕ) : Type 0 where
-  pub answer : r ≡ first_refusal (rule_refusals slots log_d rule)
-  pub low : r ≡ 0 → log_d ≤ 8
-  pub ruled : r ≡ 0 → Ruled slots (2 ^ log_d) rule
+-- an accepted rule
+pub record RuleTaken (slots log_d : ℕ) (rule : Rule) (m : Reads) : Type 0 where
+  pub none : first_refusal (rule_refusals slots log_d rule) ≡ None
+  pub rule_is : m.rule ≡ rule
+  pub log_is : m.side.log_d ≡ log_d
+
+-- the test of a rule
+pub record RuleJudged (slots log_d : ℕ) (rule : Rule) (r : Result Reads Refusal) : Type 0 where
+  pub refused : (x : Refusal) → r ≡ Err x → first_refusal (rule_refusals slots log_d rule) ≡ Some x
+  pub accepted : (m : Reads) → r ≡ Ok m → RuleTaken slots log_d rule m

@@ -1,14 +1,12 @@
 -- `ring::count_marks` meets its contract. Assumes nothing.
-use Rattle.std.proofs.Common.{arith, rules}
-use Rattle.ring.proofs.Counting.{counting_none, counting_low, counting_yes, counting_no}
+use Rattle.std.proofs.Common.{◌≡◌, Bool, min, take, ◌∙◌, rules, arith}
+use Rattle.std.specs.List.{count_by}
+use Rattle.std.proofs.iter.runs.Made.{chains}
+use Rattle.ring.proofs.Counting.{counted}
 use Rattle.ring.proofs.count_marks.Goals as goal
-use Rattle.ring.proofs.count_marks.Goals.{else-seen-k, then-seen-k}
 
-pub loop-k-init : goal.loop-k-init
-loop-k-init c = counting_none _ _
-
-pub overflow_add-count : goal.overflow_add-count
-overflow_add-count c = omega (arith, counting_low c.loop-k.invariant, c.loop-k.invariant.room, c.least-k-end.ensures)
-
-pub loop-k-preserved : goal.loop-k-preserved
-loop-k-preserved c = elim c.if-seen-k.branch [ then-seen-k w ↦ rw w.count-is (search (counting_yes, rules)) | else-seen-k w ↦ rw w.count-is (search (counting_no, rules)) ]
+pub returns : goal.returns
+returns c =
+    let h : c.count.result ≡ count_by (λ (b : Bool). b) (take (min c.args.n 65536) c.args.seen.now) = search (rules, chains) in
+    let e = h ∙ counted c.args.seen.now (min c.args.n 65536) (search rules) in
+    record { answer = e; within = λ l. let m : min c.args.n 65536 ≡ c.args.n = omega arith in rw (← m) e }

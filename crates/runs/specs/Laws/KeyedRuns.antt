@@ -1,7 +1,7 @@
 -- Laws of the keyed run: what an accepted one tells of its arguments, answers and leaves, and when it says key missing.
 -- Assumes nothing.
-use Rattle.std.specs.Prelude.{◌≡◌, ℕ, zero, suc, ◌+◌, ◌-◌, ◌*◌, ◌<◌, ◌≤◌, min, Bool, true, false, not, ◌⊎◌, List, [], ◌∷◌, ◌++◌, map, length, take, drop, ◌==◌, ◌≢◌, slice_index, refl}
-use Rattle.std.proofs.Common.{sym, ◌∙◌, inl, inr, suc-ne-zero, arith, ltb-false, eqb-true, length-take, take_all, take_at}
+use Rattle.std.specs.Prelude.{◌≡◌, ℕ, zero, suc, ◌+◌, ◌-◌, ◌*◌, ◌<◌, ◌≤◌, min, Bool, true, false, not, ◌⊎◌, List, [], ◌∷◌, ◌++◌, map, length, take, drop, ◌==◌, ◌≢◌, slice_index, None, Some, Result, Ok, Err, refl}
+use Rattle.std.proofs.Common.{sym, ◌∙◌, inl, inr, arith, ltb-false, eqb-true, length-take, take_all, take_at}
 use Rattle.std.proofs.Math.Path.{ap}
 use Rattle.std.proofs.Math.Nat.{min-eq_left, min-eq_right}
 use Rattle.std.proofs.lemmas.Bool.{not-false}
@@ -9,7 +9,11 @@ use Rattle.std.proofs.lemmas.List.{length-map}
 use Rattle.ring.specs.Slots.{modulus}
 use Rattle.ring.specs.Lists.{Each, among}
 use Rattle.ring.specs.Vectors.{tabulate, in_front}
+use Rattle.ring.specs.declared.refusal.Refusal.{Refusal}
+use Rattle.ring.specs.declared.refusal.Refusal.TheVariants.{OutOfRange, Length, Key, Room}
 use Rattle.ring.specs.Refusals.{pick, first_refusal, Range}
+use Rattle.ring.specs.Answers.{answered}
+use Rattle.ring.specs.Laws.Answers.{when_ok, when_refused}
 use Rattle.ring.specs.Laws.Refusals.{on_accept_refused, on_accept_accepted, first_later, none_of_both, none_holds, inside}
 use Rattle.ring.specs.Laws.Lists.{each_map}
 use Rattle.ring.specs.Laws.Searches.{lt_or_ge}
@@ -27,17 +31,15 @@ use Rattle.linear_transformation.specs.Schedules.{plan_keys, plan_tree, plan_swi
 use Rattle.linear_transformation.specs.Stored.{is_missing}
 use Rattle.linear_transformation.specs.Laws.Widths.{distinct_planned}
 use Rattle.linear_transformation.specs.Laws.Switches.{switches_bound}
-use Rattle.runs.specs.declared.keyed.KeyedAnswer.{KeyedAnswer}
-use Rattle.runs.specs.declared.keyed.KeyedAnswer.TheVariants.{Refused}
-use Rattle.runs.specs.Calls.{Evaluated}
+use Rattle.runs.specs.declared.keyed.Progress.{Progress}
+use Rattle.runs.specs.Calls.{evaluate_refusal, Evaluated}
 use Rattle.runs.specs.Plans.{map_babies, map_giants, map_keys, map_switches}
 use Rattle.runs.specs.Switches.{rotation_of, schedule}
 use Rattle.runs.specs.Machines.{State, machine}
-use Rattle.runs.specs.Keyed.{Lent, lent_state, keyed_room, keyed_refusal, keyed_numbers, keyed_answered, keyed_left, KeyedRun}
+use Rattle.runs.specs.Keyed.{Lent, lent_state, keyed_room, keyed_refusal, keyed_progress, keyed_left, KeyedRun}
 use Rattle.runs.specs.Laws.Plans.{map_distinct}
 use Rattle.runs.specs.Laws.PassSchedules.{schedule_count}
 use Rattle.runs.specs.Laws.KeysUsed.{keys_are_used, missing_key, key_missing, held_alone}
-use Rattle.runs.specs.Laws.KeyedNumbers.{keyed_first}
 use Rattle.runs.specs.Laws.Finished.{machine_last, machine_log, finished_product}
 
 -- a width that is not outside is not 0
@@ -47,50 +49,45 @@ width_positive (BsgsPowersOfTwo width) e = (inside width e).0
 width_positive Direct e = omega arith
 
 module _ (slots count : ℕ) (pairs values input : List ℕ) (strategy : LinearTransformationStrategy) where
-  abbrev before_keys : List (Bool × ℕ)
-  before_keys = map_refusals slots count pairs values ++ (width_outside strategy, 3) ∷ (not (length input == slots), 7) ∷ []
+  abbrev before_keys : List (Bool × Refusal)
+  before_keys = map_refusals slots count pairs values ++ (width_outside strategy, OutOfRange) ∷ (not (length input == slots), Length) ∷ []
 
   -- none of the refusals before the keys applies: a missing key, and then the room, decide
   module _ (held : List ℕ) (lent : Lent) where
-    before_fits : Each (λ c. c.1 ≢ 0) before_keys
-    before_fits = (suc-ne-zero 0, (suc-ne-zero 1, (suc-ne-zero 2, (suc-ne-zero 6, tt))))
+    then_keys : first_refusal (map_refusals slots count pairs values ++ (width_outside strategy, OutOfRange) ∷ (not (length input == slots), Length) ∷ []) ≡ None
+        → keyed_refusal slots count pairs values input strategy held lent ≡ pick (is_missing held (map_keys slots strategy (view count pairs values))) Key (first_refusal (keyed_room slots strategy (view count pairs values) lent))
+    then_keys z = first_later before_keys ((is_missing held (map_keys slots strategy (view count pairs values)), Key) ∷ keyed_room slots strategy (view count pairs values) lent) z
 
-    then_keys : first_refusal (map_refusals slots count pairs values ++ (width_outside strategy, 3) ∷ (not (length input == slots), 7) ∷ []) ≡ 0
-        → keyed_refusal slots count pairs values input strategy held lent ≡ pick (is_missing held (map_keys slots strategy (view count pairs values))) 11 (first_refusal (keyed_room slots strategy (view count pairs values) lent))
-    then_keys z = first_later before_keys ((is_missing held (map_keys slots strategy (view count pairs values)), 11) ∷ keyed_room slots strategy (view count pairs values) lent) before_fits z
-
--- the room is refused by 12 alone
-all_twelve : (cs : List (Bool × ℕ)) → Each (λ c. c.1 ≡ 12) cs → first_refusal cs ≢ 11
-all_twelve [] h e = suc-ne-zero 10 (sym e)
-all_twelve (c ∷ cs) h e = by c.0 (all_twelve cs h.1) e
+-- the room is refused by `Room` alone
+all_room : (cs : List (Bool × Refusal)) → Each (λ c. c.1 ≡ Room) cs → first_refusal cs ≢ Some Key
+all_room [] h e = cc
+all_room (c ∷ cs) h e = by c.0 (all_room cs h.1) e
   where
-    by : (b : Bool) → (first_refusal cs ≢ 11) → pick b c.1 (first_refusal cs) ≢ 11
-    by true f e = omega (arith, h.0)
+    by : (b : Bool) → (first_refusal cs ≢ Some Key) → pick b c.1 (first_refusal cs) ≢ Some Key
+    by true f e = let r = h.0 in cc
     by false f e = f e
 
-only_keys : (b : Bool) (slots : ℕ) (strategy : LinearTransformationStrategy) (ds : List Diagonal) (lent : Lent) → pick b 11 (first_refusal (keyed_room slots strategy ds lent)) ≡ 11 → b ≡ true
+only_keys : (b : Bool) (slots : ℕ) (strategy : LinearTransformationStrategy) (ds : List Diagonal) (lent : Lent) → pick b Key (first_refusal (keyed_room slots strategy ds lent)) ≡ Some Key → b ≡ true
 only_keys true slots strategy ds lent e = refl
-only_keys false slots strategy ds lent e = absurd (all_twelve (keyed_room slots strategy ds lent) (refl, (refl, (refl, (refl, (refl, (refl, tt)))))) e)
+only_keys false slots strategy ds lent e = absurd (all_room (keyed_room slots strategy ds lent) (refl, (refl, (refl, (refl, (refl, (refl, tt)))))) e)
 
 module _ (slots count : ℕ) (pairs values input : List ℕ) (strategy : LinearTransformationStrategy) (held : List ℕ) (lent : Lent) (n : ℕ)
-    (z : first_refusal (map_refusals slots count pairs values ++ (width_outside strategy, 3) ∷ (not (length input == slots), 7) ∷ []) ≡ 0) where
-  -- where no refusal before the keys applies, the answer is refusal 11 exactly if a key is missing
+    (z : first_refusal (map_refusals slots count pairs values ++ (width_outside strategy, OutOfRange) ∷ (not (length input == slots), Length) ∷ []) ≡ None) where
+  -- where no refusal before the keys applies, the answer is `Key` exactly if a key is missing
   missing_answered : is_missing held (map_keys slots strategy (view count pairs values)) ≡ true
-      → keyed_answered (keyed_refusal slots count pairs values input strategy held lent) slots strategy (view count pairs values) n ≡ Refused 11
-  unfolding keyed_answered
+      → answered (keyed_refusal slots count pairs values input strategy held lent) (keyed_progress slots strategy (view count pairs values) n) ≡ Err Key
   missing_answered e = rw (then_keys slots count pairs values input strategy held lent z, e)
 
-  answered_missing : keyed_answered (keyed_refusal slots count pairs values input strategy held lent) slots strategy (view count pairs values) n ≡ Refused 11
+  answered_missing : answered (keyed_refusal slots count pairs values input strategy held lent) (keyed_progress slots strategy (view count pairs values) n) ≡ Err Key
       → is_missing held (map_keys slots strategy (view count pairs values)) ≡ true
   answered_missing e =
       only_keys (is_missing held (map_keys slots strategy (view count pairs values))) slots strategy (view count pairs values) lent
       (sym (then_keys slots count pairs values input strategy held lent z)
-      ∙ sym (keyed_first slots strategy (view count pairs values) n (keyed_refusal slots count pairs values input strategy held lent))
-      ∙ ap (λ (a : KeyedAnswer). slice_index (keyed_numbers a) 0) e)
+      ∙ when_refused (keyed_refusal slots count pairs values input strategy held lent) (keyed_progress slots strategy (view count pairs values) n) Key (sym e))
 
 -- what no refusal tells
 pub record RunTaken (slots count : ℕ) (pairs values input : List ℕ) (strategy : LinearTransformationStrategy) (held : List ℕ) (lent : Lent) : Type 0 where
-  pub map_accepted : map_refusal slots count pairs values ≡ 0
+  pub map_accepted : map_refusal slots count pairs values ≡ None
   pub range : Range slots
   pub formed : FormedMap slots (view count pairs values)
   pub width : 0 < width_of strategy
@@ -102,17 +99,17 @@ pub record RunTaken (slots count : ℕ) (pairs values input : List ℕ) (strateg
   pub out_room : slots ≤ length lent.out
 
 module _ (slots count : ℕ) (pairs values input : List ℕ) (strategy : LinearTransformationStrategy) (held : List ℕ) (lent : Lent) where
-  abbrev behind_map : List (Bool × ℕ)
+  abbrev behind_map : List (Bool × Refusal)
   behind_map =
-      (width_outside strategy, 3)
-      ∷ (not (length input == slots), 7)
-      ∷ (is_missing held (map_keys slots strategy (view count pairs values)), 11)
+      (width_outside strategy, OutOfRange)
+      ∷ (not (length input == slots), Length)
+      ∷ (is_missing held (map_keys slots strategy (view count pairs values)), Key)
       ∷ keyed_room slots strategy (view count pairs values) lent
 
-  none_refused : keyed_refusal slots count pairs values input strategy held lent ≡ 0 → RunTaken slots count pairs values input strategy held lent
+  none_refused : keyed_refusal slots count pairs values input strategy held lent ≡ None → RunTaken slots count pairs values input strategy held lent
   none_refused ok =
-      let both = none_of_both (map_refusals slots count pairs values) behind_map (suc-ne-zero 0, (suc-ne-zero 1, tt)) ok in
-      let t = none_holds behind_map (suc-ne-zero 2, (suc-ne-zero 6, (suc-ne-zero 10, (suc-ne-zero 11, (suc-ne-zero 11, (suc-ne-zero 11, (suc-ne-zero 11, (suc-ne-zero 11, (suc-ne-zero 11, tt))))))))) both.1 in
+      let both = none_of_both (map_refusals slots count pairs values) behind_map ok in
+      let t = none_holds behind_map both.1 in
       let roomy = t.1.1.1 in
       record {
         map_accepted = both.0;
@@ -157,15 +154,15 @@ module _ (slots : ℕ) (strategy : LinearTransformationStrategy) (ks : List ℕ)
   pub keys_made : plan_switches slots strategy ks ≤ n → Each (λ x. among x (map rotation_of (take n (schedule slots strategy ks))) ≡ true) (plan_keys slots strategy ks)
   keys_made h = rw (take_all n (schedule slots strategy ks) (rw (schedule_count slots strategy ks) h)) (keys_are_used slots strategy ks)
 
--- the answer of an accepted run knows the offsets alone
-pub answered_alike : (slots : ℕ) (strategy : LinearTransformationStrategy) (n : ℕ) (ds es : List Diagonal) → offsets_of ds ≡ offsets_of es → keyed_answered 0 slots strategy ds n ≡ keyed_answered 0 slots strategy es n
-unfolding keyed_answered
-answered_alike slots strategy n ds es e =
+-- what an accepted run tells knows the offsets alone
+pub progress_alike : (slots : ℕ) (strategy : LinearTransformationStrategy) (n : ℕ) (ds es : List Diagonal) → offsets_of ds ≡ offsets_of es → keyed_progress slots strategy ds n ≡ keyed_progress slots strategy es n
+unfolding keyed_progress
+progress_alike slots strategy n ds es e =
     let l : length ds ≡ length es = sym (length-map ds (λ (d : Diagonal). d.offset)) ∙ ap length e ∙ length-map es (λ (d : Diagonal). d.offset) in
     rw (e, l)
 
 -- of an accepted map: with powers of two and no gap at most b switches more
-pub map_few : (slots count : ℕ) (pairs values : List ℕ) (width : ℕ) → map_refusal slots count pairs values ≡ 0 → 0 < width → NoGaps slots width (offsets_of (view count pairs values))
+pub map_few : (slots count : ℕ) (pairs values : List ℕ) (width : ℕ) → map_refusal slots count pairs values ≡ None → 0 < width → NoGaps slots width (offsets_of (view count pairs values))
     → map_switches slots (BsgsPowersOfTwo width) (view count pairs values) ≤ map_switches slots (Bsgs width) (view count pairs values) + (plan_tree slots width (offsets_of (view count pairs values))).bits
 map_few slots count pairs values width e w gaps =
     switches_bound (distinct_planned (map_distinct slots (accepted_range slots count pairs values e).low (view count pairs values) (accepted_formed slots count pairs values e)) width w) gaps
@@ -209,14 +206,14 @@ machine_min m slots strategy ds input lent n = by (lt_or_ge n (map_switches slot
 
 -- ---- the call
 
-module _ {slots count : ℕ} {pairs values input : List ℕ} {strategy : LinearTransformationStrategy} {held : List ℕ} {n : ℕ} {old new : Lent} {r : KeyedAnswer} (k : KeyedRun slots count pairs values input strategy held n old new r) where
-  module _ (ok : keyed_refusal slots count pairs values input strategy held old ≡ 0) where
+module _ {slots count : ℕ} {pairs values input : List ℕ} {strategy : LinearTransformationStrategy} {held : List ℕ} {n : ℕ} {old new : Lent} {r : Result Progress Refusal} (k : KeyedRun slots count pairs values input strategy held n old new r) where
+  module _ (ok : keyed_refusal slots count pairs values input strategy held old ≡ None) where
     -- an accepted one: what its arguments are, what it answers and what it leaves
     pub run_taken : RunTaken slots count pairs values input strategy held old
     run_taken = none_refused slots count pairs values input strategy held old ok
 
-    pub run_answer : r ≡ keyed_answered 0 slots strategy (view count pairs values) n
-    run_answer = k.answer ∙ ap (λ (e : ℕ). keyed_answered e slots strategy (view count pairs values) n) ok
+    pub run_answer : r ≡ Ok (keyed_progress slots strategy (view count pairs values) n)
+    run_answer = k.answer ∙ rw ok
 
     pub run_left : new ≡ keyed_left slots strategy (view count pairs values) input old n
     run_left = k.words ∙ on_accept_accepted _ _ _ ok
@@ -230,23 +227,24 @@ module _ {slots count : ℕ} {pairs values input : List ℕ} {strategy : LinearT
     run_finished h = ap (λ (l : Lent). l.out) run_left ∙ run_product run_taken n h
 
     -- the plain run of the same map and input, by any strategy
-    pub run_plain : map_switches slots strategy (view count pairs values) ≤ n → {strategy' : LinearTransformationStrategy} {out out' : List ℕ} {e : ℕ} → Evaluated slots count pairs values input strategy' out out' e → e ≡ 0
+    pub run_plain : map_switches slots strategy (view count pairs values) ≤ n → {strategy' : LinearTransformationStrategy} {out out' : List ℕ} {e : Result Unit Refusal} → Evaluated slots count pairs values input strategy' out out' e → e ≡ Ok tt
         → (take slots new.out ≡ take slots out') × (out ≡ old.out → out' ≡ new.out)
-    run_plain h {strategy'} {out} {out'} {e} plain z =
+    run_plain h {strategy'} {out} {out'} plain z =
         let a = run_finished h in
-        let b = plain.out ∙ on_accept_accepted e _ _ z in
+        let refusal = evaluate_refusal slots count pairs values input strategy' out in
+        let b = plain.out ∙ on_accept_accepted refusal _ _ (when_ok refusal tt tt (sym z ∙ plain.answer)).0 in
         let f = product modulus slots (view count pairs values) input in
         (ap (take slots) a ∙ front_taken slots f old.out ∙ sym (ap (take slots) b ∙ front_taken slots f out), λ q. b ∙ ap (in_front (tabulate slots f)) q ∙ sym a)
 
   -- a refused one leaves all as it was
-  pub run_refused : (keyed_refusal slots count pairs values input strategy held old ≢ 0) → new ≡ old
+  pub run_refused : (keyed_refusal slots count pairs values input strategy held old ≢ None) → new ≡ old
   run_refused h = k.words ∙ on_accept_refused _ _ _ h
 
-  -- the answer 11
-  pub run_missing : first_refusal (map_refusals slots count pairs values ++ (width_outside strategy, 3) ∷ (not (length input == slots), 7) ∷ []) ≡ 0 → r ≡ Refused 11
+  -- the answer `Key`
+  pub run_missing : first_refusal (map_refusals slots count pairs values ++ (width_outside strategy, OutOfRange) ∷ (not (length input == slots), Length) ∷ []) ≡ None → r ≡ Err Key
       → (key : ℕ) × ((among key (map_keys slots strategy (view count pairs values)) ≡ true) × (among key held ≡ false))
   run_missing z e = missing_key held (map_keys slots strategy (view count pairs values)) (answered_missing slots count pairs values input strategy held old n z (sym k.answer ∙ e))
 
-  pub run_misses : first_refusal (map_refusals slots count pairs values ++ (width_outside strategy, 3) ∷ (not (length input == slots), 7) ∷ []) ≡ 0
-      → (key : ℕ) × ((among key (map_keys slots strategy (view count pairs values)) ≡ true) × (among key held ≡ false)) → r ≡ Refused 11
+  pub run_misses : first_refusal (map_refusals slots count pairs values ++ (width_outside strategy, OutOfRange) ∷ (not (length input == slots), Length) ∷ []) ≡ None
+      → (key : ℕ) × ((among key (map_keys slots strategy (view count pairs values)) ≡ true) × (among key held ≡ false)) → r ≡ Err Key
   run_misses z m = k.answer ∙ missing_answered slots count pairs values input strategy held old n z (key_missing held (map_keys slots strategy (view count pairs values)) m.0 m.1.0 m.1.1)

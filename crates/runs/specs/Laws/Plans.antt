@@ -1,6 +1,6 @@
 -- From a map to its plan: the stored offsets of an accepted map are the diagonals that its plan is made of.
 -- Assumes nothing.
-use Rattle.std.specs.Prelude.{◌≡◌, ℕ, ◌<◌, List, [], ◌∷◌, map, pos, refl}
+use Rattle.std.specs.Prelude.{◌≡◌, ℕ, ◌<◌, List, [], ◌∷◌, map, pos, refl, None}
 use Rattle.std.proofs.Common.{ap, ◌∙◌, mod-eq_of_lt, arith}
 use Rattle.ring.specs.Lists.{Each}
 use Rattle.ring.specs.Residues.{residue_of, diagonals_of}
@@ -41,6 +41,6 @@ module _ (slots : ℕ) (p : 0 < slots) where
     map_plan_lem strategy = ap (plan_words slots strategy) map_diagonals
 
 -- of an accepted map
-pub accepted_diagonals : (slots count : ℕ) (pairs values : List ℕ) → map_refusal slots count pairs values ≡ 0 → diagonals_of slots (map pos (offsets_of (view count pairs values))) ≡ offsets_of (view count pairs values)
+pub accepted_diagonals : (slots count : ℕ) (pairs values : List ℕ) → map_refusal slots count pairs values ≡ None → diagonals_of slots (map pos (offsets_of (view count pairs values))) ≡ offsets_of (view count pairs values)
 accepted_diagonals slots count pairs values e =
     map_diagonals slots (accepted_range slots count pairs values e).low (view count pairs values) (accepted_formed slots count pairs values e)

@@ -1,13 +1,16 @@
 -- What the private steps of the giant switches ask and ensure.
 -- Assumes nothing.
-use Rattle.std.specs.Prelude.{◌≡◌, ℕ, zero, suc, ◌+◌, ◌-◌, ◌*◌, ◌/◌, ◌%◌, ◌^◌, ◌<◌, ◌≤◌, Bool, true, false, cond, not, ◌&&◌, List, map, length, ◌==◌, slice_index}
+use Rattle.std.specs.Prelude.{◌≡◌, ℕ, zero, suc, ◌+◌, ◌-◌, ◌*◌, ◌/◌, ◌%◌, ◌^◌, ◌<◌, ◌≤◌, Bool, true, false, cond, not, ◌&&◌, List, length, ◌==◌, pos, slice_index}
 use Rattle.ring.specs.Slots.{modulus}
-use Rattle.ring.specs.Lists.{Each, Rising}
-use Rattle.ring.specs.Refusals.{Range}
+use Rattle.ring.specs.Lists.{Each}
+use Rattle.ring.specs.Refusals.{on_accept}
 use Rattle.ring.specs.Searches.{below}
 use Rattle.ring.specs.Residues.{residue_of}
 use Rattle.ring.specs.Vectors.{tabulate, put_at}
-use Rattle.linear_transformation.specs.Digits.{digit, Giant, level_rotation}
+use Rattle.linear_transformation.specs.Digits.{digit, rot_of, level_rotation}
+use Rattle.linear_transformation.specs.Calls.{digit_refusal}
+use Rattle.runs.specs.declared.tree.Tree.{Tree}
+use Rattle.runs.specs.Steps.Leaves.{leaves_by}
 use Rattle.linear_transformation.specs.Trees.{there}
 use Rattle.runs.specs.Switches.{none, at, Switch, giant, pair, rotation_of, node_place}
 use Rattle.runs.specs.Machines.{nodes_after}
@@ -31,28 +34,16 @@ pub record GiantsTurned (gs : List ℕ) (start n slots : ℕ) (nodes nodes' log 
 
 -- ---- leaves
 
--- the leaf of a giant in a tree of size leaves
-abbrev pub leaf_by : ℕ → ℕ → ℕ → ℕ → ℕ
-leaf_by slots width size g = residue_of (digit slots width (record { 0 = g })).0 size
+-- of any number: 0 where it is no giant
+abbrev pub leaf_or_none : Tree → ℕ → ℕ
+leaf_or_none t g =
+    on_accept (digit_refusal t.slots t.width (pos g)) (residue_of (digit t.slots t.width (rot_of t.slots (pos g))).0 (2 ^ t.bits)) 0
 
-abbrev pub leaves_by : ℕ → ℕ → ℕ → List ℕ → List ℕ
-leaves_by slots width size gs = map (leaf_by slots width size) gs
+abbrev pub leaves_of : Tree → List ℕ
+leaves_of t = leaves_by t.slots t.width (2 ^ t.bits) t.giants.now
 
-pub record LeafAsked (g width slots size : ℕ) : Type 0 where
-  pub slots_in_fact : Range slots
-  pub width_in : Range width
-  pub is : Giant slots width (record { 0 = g })
-
--- the leaves of a plan's giants
-pub record Leafy (gs : List ℕ) (width slots size : ℕ) : Type 0 where
-  pub slots_in_fact : Range slots
-  pub width_in : Range width
-  pub each : Each (λ g. Giant slots width (record { 0 = g })) gs
-  pub rises : Rising (leaves_by slots width size gs)
-
-pub record NodeAsked (gs : List ℕ) (width slots size level node : ℕ) : Type 0 where
-  pub leafy : Leafy gs width slots size
-  pub there_is : there (leaves_by slots width size gs) level node ≡ true
+pub record NodeAsked (t : Tree) (level node : ℕ) : Type 0 where
+  pub there_is : there (leaves_of t) level node ≡ true
   pub small : node * 2 ^ level < 65536
   pub low : level < 17
 
@@ -92,45 +83,34 @@ abbrev pub starts : List ℕ → ℕ → ℕ → List ℕ
 starts leaves n bits = below (starts_at leaves n) (bits * n)
 
 -- the q-th switch
-abbrev pub join_at : List ℕ → ℕ → ℕ → ℕ → ℕ → ℕ → Switch
-join_at gs width slots size bits q =
-    let leaves = leaves_by slots width size gs in
+abbrev pub join_by : List ℕ → ℕ → ℕ → ℕ → ℕ → Switch
+join_by gs width slots bits q =
+    let leaves = leaves_by slots width (2 ^ bits) gs in
     switch_at slots width bits leaves (length gs) (slice_index (starts leaves (length gs) bits) q)
 
+abbrev pub join_at : Tree → ℕ → Switch
+join_at t q = join_by t.giants.now t.width t.slots t.bits q
+
 -- a place of a level
-pub record PlaceAsked (gs : List ℕ) (width slots size level place : ℕ) : Type 0 where
-  pub leafy : Leafy gs width slots size
-  pub inside : place < length gs
-  pub some : 1 ≤ size
-  pub small : size ≤ 65536
+pub record PlaceAsked (t : Tree) (level place : ℕ) : Type 0 where
+  pub inside : place < length t.giants.now
   pub low : level < 17
 
-pub record TurnOfAsked (bits level width slots : ℕ) : Type 0 where
-  pub slots_in_fact : Range slots
-  pub width_in : Range width
-  pub small : bits ≤ 16
-  pub low : level < bits
+pub record PairAsked (t : Tree) (level place n : ℕ) : Type 0 where
+  pub inside : place < length t.giants.now
+  pub low : level < t.bits
+  pub room : length t.giants.now * t.slots ≤ n
 
-pub record PairAsked (gs : List ℕ) (width slots size bits level place n : ℕ) : Type 0 where
-  pub placed : PlaceAsked gs width slots size level place
-  pub small : bits ≤ 16
-  pub low : level < bits
-  pub room : length gs * slots ≤ n
-
-pub record PairJoined (gs : List ℕ) (width slots size bits level place : ℕ) (old new : List ℕ) (r : ℕ) : Type 0 where
-  pub nodes : new ≡ nodes_after modulus slots old (start_switch (leaves_by slots width size gs) level (level_rotation slots width bits level).0 place)
-  pub turn : r ≡ (level_rotation slots width bits level).0
+pub record PairJoined (t : Tree) (level place : ℕ) (old new : List ℕ) (r : ℕ) : Type 0 where
+  pub nodes : new ≡ nodes_after modulus t.slots old (start_switch (leaves_of t) level (level_rotation t.slots t.width t.bits level).0 place)
+  pub turn : r ≡ (level_rotation t.slots t.width t.bits level).0
   pub len : length new ≡ length old
 
-pub record PairsAsked (gs : List ℕ) (width slots size bits n size-of-nodes : ℕ) : Type 0 where
-  pub leafy : Leafy gs width slots size
-  pub some : 1 ≤ size
-  pub small : size ≤ 65536
-  pub bits_low : bits ≤ 16
-  pub giants_low : length gs ≤ 65536
-  pub few : n ≤ length (starts (leaves_by slots width size gs) (length gs) bits)
-  pub room : length gs * slots ≤ size-of-nodes
+pub record PairsAsked (t : Tree) (n size-of-nodes : ℕ) : Type 0 where
+  pub giants_low : length t.giants.now ≤ 65536
+  pub few : n ≤ length (starts (leaves_of t) (length t.giants.now) t.bits)
+  pub room : length t.giants.now * t.slots ≤ size-of-nodes
 
-pub record PairsJoined (gs : List ℕ) (width slots size bits n : ℕ) (nodes nodes' log log' : List ℕ) (logged : ℕ) : Type 0 where
-  pub joined_all : nodes' ≡ nodes_by modulus slots nodes (tabulate n (join_at gs width slots size bits))
-  pub logs : log' ≡ put_at logged (tabulate n (λ q. rotation_of (join_at gs width slots size bits q))) log
+pub record PairsJoined (t : Tree) (n : ℕ) (nodes nodes' log log' : List ℕ) (logged : ℕ) : Type 0 where
+  pub joined_all : nodes' ≡ nodes_by modulus t.slots nodes (tabulate n (join_at t))
+  pub logs : log' ≡ put_at logged (tabulate n (λ q. rotation_of (join_at t q))) log

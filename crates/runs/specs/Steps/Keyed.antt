@@ -1,6 +1,6 @@
 -- What the private steps of the keyed run ask and ensure.
 -- Assumes nothing.
-use Rattle.std.specs.Prelude.{◌≡◌, ℕ, zero, suc, ◌+◌, ◌-◌, ◌*◌, ◌%◌, ◌<◌, ◌≤◌, true, List, [], ◌∷◌, length, take, slice_index}
+use Rattle.std.specs.Prelude.{◌≡◌, ℕ, ◌+◌, ◌-◌, ◌*◌, ◌%◌, ◌<◌, ◌≤◌, true, List, [], ◌∷◌, length, take, slice_index, Option, None, Some}
 use Rattle.ring.specs.Slots.{modulus, addm, mulm}
 use Rattle.ring.specs.Lists.{join, sum_by, among, Each, Rising}
 use Rattle.ring.specs.Vectors.{tabulate, in_front}
@@ -8,43 +8,23 @@ use Rattle.diagonals.specs.Maps.{offset_at, diagonal_at}
 use Rattle.diagonals.specs.Products.{cell}
 use Rattle.linear_transformation.specs.Plans.{babies_at}
 use Rattle.linear_transformation.specs.Closures.{nonzeros}
-use Rattle.runs.specs.Switches.{Switch, source_of, rotation_of}
+use Rattle.runs.specs.declared.surveying.Powers.{Powers}
+use Rattle.runs.specs.Switches.{place_of, Switch, source_of, rotation_of}
 use Rattle.runs.specs.Machines.{source_vector, cache_after, nodes_after}
 use Rattle.runs.specs.Laws.PassSchedules.{top_turn, making}
 
 -- ---- vectors of one buffer
 
--- the words in the other order
-abbrev pub reversed : List ℕ → ℕ → ℕ
-reversed v i = slice_index v (length v - 1 - i)
-
--- the words from a place on
-abbrev pub copied : List ℕ → ℕ → ℕ → ℕ
-copied buffer from j = slice_index buffer (from + j)
-
-abbrev pub added_at : List ℕ → ℕ → ℕ → ℕ → ℕ
-added_at buffer to from j = addm modulus (slice_index buffer (to + j)) (slice_index buffer (from + j))
-
--- n words are read before those that are written; behind them
-pub record CopyAsked (buffer : List ℕ) (to from n : ℕ) : Type 0 where
-  pub before : from + n ≤ to
-  pub room : to + n ≤ length buffer
-
-pub record AddAsked (buffer : List ℕ) (to from n : ℕ) : Type 0 where
-  pub before : to + n ≤ from
-  pub room : from + n ≤ length buffer
+-- out[s] and the vector's word
+abbrev pub vector_added : List ℕ → List ℕ → ℕ → ℕ
+vector_added v out s = addm modulus (slice_index out s) (slice_index v s)
 
 -- a vector of the buffer, and a rotation
 pub record TurnAsked (slots : ℕ) (buffer : List ℕ) (place k : ℕ) : Type 0 where
   pub low : k < slots
   pub room : place * slots + slots ≤ length buffer
 
--- a vector, and one before it; behind it
-pub record CopyTurn (slots : ℕ) (buffer : List ℕ) (place source k : ℕ) : Type 0 where
-  pub low : k < slots
-  pub order : source < place
-  pub room : place * slots + slots ≤ length buffer
-
+-- a vector and one behind it, and a rotation
 pub record AddTurn (slots : ℕ) (buffer : List ℕ) (even odd k : ℕ) : Type 0 where
   pub low : k < slots
   pub order : even < odd
@@ -81,10 +61,15 @@ nodes_by m slots nodes (w ∷ ws) = nodes_by m slots (nodes_after m slots nodes 
 
 -- ---- baby switches
 
--- the rotation that makes baby v; step 0: each rotation has its own key
-abbrev pub turn_by : ℕ → ℕ → ℕ
-turn_by zero v = v
-turn_by (suc c) v = top_turn (suc c) v
+-- the rotation that makes baby v: v itself, and with powers of two the top bit of its multiple of the step
+abbrev pub turn_by : Option Powers → ℕ → ℕ
+turn_by None v = v
+turn_by (Some p) v = top_turn p.step v
+
+-- with powers of two: v is not below the step
+abbrev pub StepUpTo : ℕ → Option Powers → Type 0
+StepUpTo v None = Unit
+StepUpTo v (Some p) = (1 ≤ p.step) × (p.step ≤ v)
 
 pub record Listed (bs : List ℕ) (k : ℕ) : Type 0 where
   pub rises : Rising bs
@@ -96,34 +81,37 @@ pub record Babies (bs input cache : List ℕ) : Type 0 where
   pub front : bs ≡ 0 ∷ nonzeros bs
   pub room : length (nonzeros bs) * length input ≤ length cache
 
+-- a baby whose vector is in the cache
 pub record Reading (bs : List ℕ) (k : ℕ) (input cache : List ℕ) : Type 0 where
-  pub babies : Babies bs input cache
+  pub rises : Rising bs
+  pub front : bs ≡ 0 ∷ nonzeros bs
   pub has : among k bs ≡ true
+  pub room : place_of k bs * length input ≤ length cache
 
--- a baby that a step makes
-pub record Turnable (v step : ℕ) : Type 0 where
+-- a baby that a rotation makes
+pub record Turnable (v : ℕ) (powers : Option Powers) : Type 0 where
   pub some : 1 ≤ v
-  pub low : step ≤ v
+  pub low : StepUpTo v powers
   pub small : v < 65536
 
-pub record TurnIs (v step r : ℕ) : Type 0 where
-  pub is : r ≡ turn_by step v
+pub record TurnIs (v : ℕ) (powers : Option Powers) (r : ℕ) : Type 0 where
+  pub is : r ≡ turn_by powers v
   pub some : 1 ≤ r
   pub within : r ≤ v
 
--- with the step each baby is made from 0 or from an earlier one
-pub record Caching (bs : List ℕ) (step : ℕ) (input cache : List ℕ) : Type 0 where
+-- each baby is made from 0 or from an earlier one
+pub record Caching (bs : List ℕ) (powers : Option Powers) (input cache : List ℕ) : Type 0 where
   pub babies : Babies bs input cache
   pub some : 1 ≤ length input
   pub small : length input ≤ 65536
   pub low : Each (λ b. b < length input) bs
-  pub steps : Each (λ b. step ≤ b) (nonzeros bs)
-  pub closed : Each (λ b. among (b - turn_by step b) bs ≡ true) (nonzeros bs)
+  pub steps : Each (λ b. StepUpTo b powers) (nonzeros bs)
+  pub closed : Each (λ b. among (b - turn_by powers b) bs ≡ true) (nonzeros bs)
 
-pub record BabyMade (bs : List ℕ) (step p : ℕ) (input old new : List ℕ) (r : ℕ) : Type 0 where
-  pub cache : new ≡ cache_after (length input) input old (making bs (turn_by step) p)
-  pub turn : r ≡ turn_by step (slice_index (nonzeros bs) p)
+pub record BabyMade (bs : List ℕ) (powers : Option Powers) (p : ℕ) (input old new : List ℕ) (r : ℕ) : Type 0 where
+  pub cache : new ≡ cache_after (length input) input old (making bs (turn_by powers) p)
+  pub turn : r ≡ turn_by powers (slice_index (nonzeros bs) p)
 
-pub record BabiesMade (bs : List ℕ) (step n : ℕ) (input old new log log' : List ℕ) : Type 0 where
-  pub cache : new ≡ cache_by (length input) input old (tabulate n (making bs (turn_by step)))
-  pub logged : log' ≡ in_front (tabulate n (λ p. rotation_of (making bs (turn_by step) p))) log
+pub record BabiesMade (bs : List ℕ) (powers : Option Powers) (n : ℕ) (input old new log log' : List ℕ) : Type 0 where
+  pub cache : new ≡ cache_by (length input) input old (tabulate n (making bs (turn_by powers)))
+  pub logged : log' ≡ in_front (tabulate n (λ p. rotation_of (making bs (turn_by powers) p))) log

@@ -5,6 +5,7 @@ use Rattle.ring.specs.Slots.{modulus}
 use Rattle.ring.specs.Lists.{join, among}
 use Rattle.ring.specs.Vectors.{tabulate, in_front}
 use Rattle.diagonals.specs.Maps.{offset_at, start_at, WellFormed}
+use Rattle.runs.specs.declared.nodes.Sums.{Sums}
 use Rattle.runs.specs.Steps.Keyed.{Babies, node_run}
 
 -- the diagonals first .. first + n - 1 of a map are those of giant g: each is g and a baby of the list
@@ -69,3 +70,23 @@ first_nodes bs gs cuts pairs values input cache n = join (λ p. tabulate (length
 
 pub record NodesMade (bs gs cuts pairs values input cache old new : List ℕ) : Type 0 where
   pub nodes : new ≡ in_front (first_nodes bs gs cuts pairs values input cache (length gs)) old
+
+-- ---- the same of what the nodes are made of
+
+abbrev pub GiantOf : Sums → ℕ → ℕ → ℕ → ℕ → Type 0
+GiantOf m g first n start = GiantAsked m.babies.now g first n start m.pairs.now m.values.now m.input.now m.cache.now
+
+abbrev pub PartOf : Sums → ℕ → ℕ → ℕ → ℕ → ℕ → List ℕ → ℕ → Type 0
+PartOf m g first n slot size part r = PartMade m.babies.now g first n m.pairs.now m.values.now m.input.now m.cache.now slot size part r
+
+abbrev pub NodesOf : Sums → List ℕ → Type 0
+NodesOf m nodes = NodesAsked m.babies.now m.giants.now m.cuts.now m.pairs.now m.values.now m.input.now m.cache.now nodes
+
+abbrev pub TileOf : Sums → ℕ → ℕ → List ℕ → Type 0
+TileOf m slot size nodes = TileAsked m.babies.now m.giants.now m.cuts.now m.pairs.now m.values.now m.input.now m.cache.now slot size nodes
+
+abbrev pub TileMadeOf : Sums → ℕ → ℕ → List ℕ → List ℕ → Type 0
+TileMadeOf m slot size old new = TileMade m.babies.now m.giants.now m.cuts.now m.pairs.now m.values.now m.input.now m.cache.now slot size old new
+
+abbrev pub NodesMadeOf : Sums → List ℕ → List ℕ → Type 0
+NodesMadeOf m old new = NodesMade m.babies.now m.giants.now m.cuts.now m.pairs.now m.values.now m.input.now m.cache.now old new

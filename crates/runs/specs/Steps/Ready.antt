@@ -1,7 +1,9 @@
 -- What an accepted run asks and leaves, the room that a survey asks for, its answer, and the whole run with no pair record
 -- written.
 -- Assumes nothing.
-use Rattle.std.specs.Prelude.{◌≡◌, ℕ, ◌+◌, ◌-◌, ◌*◌, ◌≤◌, min, Bool, List, [], ◌∷◌, length, nat_le, nat_lt}
+use Rattle.std.specs.Prelude.{◌≡◌, ℕ, ◌+◌, ◌-◌, ◌*◌, ◌≤◌, min, Bool, List, [], ◌∷◌, length, nat_le, nat_lt, Result}
+use Rattle.ring.specs.declared.refusal.Refusal.{Refusal}
+use Rattle.ring.specs.declared.refusal.Refusal.TheVariants.{Room}
 use Rattle.ring.specs.Refusals.{on_accept}
 use Rattle.ring.specs.Vectors.{in_front}
 use Rattle.diagonals.specs.Maps.{Diagonal, offsets_of, view}
@@ -9,23 +11,24 @@ use Rattle.linear_transformation.specs.declared.LinearTransformationStrategy.{Li
 use Rattle.linear_transformation.specs.declared.records.PairRecord.{PairRecord}
 use Rattle.linear_transformation.specs.Schedules.{plan_words}
 use Rattle.linear_transformation.specs.Stored.{plan_records}
-use Rattle.runs.specs.declared.keyed.Survey.{Survey}
-use Rattle.runs.specs.declared.keyed.KeyedAnswer.{KeyedAnswer}
-use Rattle.runs.specs.declared.keyed.KeyedAnswer.TheVariants.{Refused, Is}
+use Rattle.runs.specs.declared.surveying.Asked.{Asked}
+use Rattle.runs.specs.declared.surveying.Words.{Words}
+use Rattle.runs.specs.declared.surveying.Survey.{Survey}
+use Rattle.runs.specs.declared.keyed.Progress.{Progress}
 use Rattle.runs.specs.Keyed.{Lent, lent, keyed_refusal, keyed_left, KeyedRun}
 use Rattle.runs.specs.Steps.Surveys.{takes, Taken}
 
 -- ---- room
 
 -- of the pair records it is told how many are lent
-abbrev pub survey_room : Survey → ℕ → ℕ → List ℕ → List ℕ → List ℕ → List ℕ → List ℕ → List (Bool × ℕ)
+abbrev pub survey_room : Survey → ℕ → ℕ → List ℕ → List ℕ → List ℕ → List ℕ → List ℕ → List (Bool × Refusal)
 survey_room r slots room plan cache nodes log out =
-    (nat_lt (length plan) (r.babies + 3 * r.giants + r.diagonals), 12)
-    ∷ (nat_lt room r.pairs, 12)
-    ∷ (nat_lt (length cache) ((r.babies - 1) * slots), 12)
-    ∷ (nat_lt (length nodes) (r.giants * slots), 12)
-    ∷ (nat_lt (length log) r.switches, 12)
-    ∷ (nat_lt (length out) slots, 12)
+    (nat_lt (length plan) (r.babies + 3 * r.giants + r.diagonals), Room)
+    ∷ (nat_lt room r.pairs, Room)
+    ∷ (nat_lt (length cache) ((r.babies - 1) * slots), Room)
+    ∷ (nat_lt (length nodes) (r.giants * slots), Room)
+    ∷ (nat_lt (length log) r.switches, Room)
+    ∷ (nat_lt (length out) slots, Room)
     ∷ []
 
 -- ---- an accepted run
@@ -53,17 +56,16 @@ pub record Small (r : Survey) : Type 0 where
   pub giants_low : r.giants ≤ 65536
   pub diagonals_low : r.diagonals ≤ 65536
 
-abbrev pub answered_by : Survey → ℕ → KeyedAnswer
-answered_by r n = Is (min n r.switches) (nat_le r.switches n) r.babies r.giants r.diagonals r.pairs
-
--- the numbers of babies and giants that an answer tells, 0 where it refuses
-abbrev pub babies_in : KeyedAnswer → ℕ
-babies_in (Refused e) = 0
-babies_in (Is switches finished babies giants diagonals pairs) = babies
-
-abbrev pub giants_in : KeyedAnswer → ℕ
-giants_in (Refused e) = 0
-giants_in (Is switches finished babies giants diagonals pairs) = giants
+abbrev pub progress_by : Survey → ℕ → Progress
+progress_by r n =
+    record {
+      switches = min n r.switches;
+      finished = nat_le r.switches n;
+      babies = r.babies;
+      giants = r.giants;
+      diagonals = r.diagonals;
+      pairs = r.pairs;
+    }
 
 -- ---- the whole run
 
@@ -76,6 +78,27 @@ keyed_records slots count pairs values input strategy held old =
     old.records
 
 -- a keyed run but for its records, of which it is told how many are lent: with those written it is the whole run
-pub record CoreRun (slots count : ℕ) (pairs values input : List ℕ) (strategy : LinearTransformationStrategy) (held : List ℕ) (n room : ℕ) (plan plan' cache cache' nodes nodes' log log' out out' : List ℕ) (r : KeyedAnswer) : Type 0 where
+pub record CoreRun (slots count : ℕ) (pairs values input : List ℕ) (strategy : LinearTransformationStrategy) (held : List ℕ) (n room : ℕ) (plan plan' cache cache' nodes nodes' log log' out out' : List ℕ) (r : Result Progress Refusal) : Type 0 where
   pub run : (records : List PairRecord) → length records ≡ room
       → KeyedRun slots count pairs values input strategy held n (lent plan records cache nodes log out) (lent plan' (keyed_records slots count pairs values input strategy held (lent plan records cache nodes log out)) cache' nodes' log' out') r
+
+-- ---- the same of what a run is asked, and of the lent words
+
+-- the words are those that were lent
+pub record Kept (old new : Words) : Type 0 where
+  pub plan : new.plan.ghost_name ≡ old.plan.ghost_name
+  pub cache : new.cache.ghost_name ≡ old.cache.ghost_name
+  pub nodes : new.nodes.ghost_name ≡ old.nodes.ghost_name
+  pub log : new.log.ghost_name ≡ old.log.ghost_name
+  pub out : new.out.ghost_name ≡ old.out.ghost_name
+
+abbrev pub ReadyOf : Asked → Survey → List ℕ → Words → Type 0
+ReadyOf a survey offsets w = Ready a.strategy survey a.slots offsets a.pairs.now a.values.now a.input.now w.plan.now w.cache.now w.nodes.now w.log.now w.out.now
+
+abbrev pub AcceptedOf : Asked → Survey → ℕ → Words → Words → Type 0
+AcceptedOf a survey n old new =
+    AcceptedLeft a.slots a.strategy (view survey.diagonals a.pairs.now a.values.now) a.input.now n old.plan.now new.plan.now old.cache.now new.cache.now old.nodes.now new.nodes.now old.log.now new.log.now old.out.now new.out.now
+
+abbrev pub CoreOf : Asked → ℕ → ℕ → Words → Words → Result Progress Refusal → Type 0
+CoreOf a n room old new r =
+    CoreRun a.slots a.count a.pairs.now a.values.now a.input.now a.strategy a.held.now n room old.plan.now new.plan.now old.cache.now new.cache.now old.nodes.now new.nodes.now old.log.now new.log.now old.out.now new.out.now r

@@ -1,7 +1,7 @@
 -- What the private steps of the keyed run's parts ask and ensure: the answer, the giant switches, and the whole run.
 -- Assumes nothing.
-use Rattle.std.specs.Prelude.{◌≡◌, ℕ, zero, suc, ◌+◌, ◌-◌, ◌*◌, ◌≤◌, false, cond, List, map, length, take, nat_lt, slice_index}
-use Rattle.ring.specs.Slots.{modulus, addm}
+use Rattle.std.specs.Prelude.{◌≡◌, ℕ, zero, suc, ◌+◌, ◌-◌, ◌*◌, ◌≤◌, false, cond, List, map, length, take, nat_lt, Option, None, Some}
+use Rattle.ring.specs.Slots.{modulus}
 use Rattle.ring.specs.Refusals.{Range}
 use Rattle.ring.specs.Vectors.{tabulate, in_front, put_at}
 use Rattle.diagonals.specs.Maps.{offsets_of, view}
@@ -9,16 +9,15 @@ use Rattle.linear_transformation.specs.declared.LinearTransformationStrategy.{Li
 use Rattle.linear_transformation.specs.Strategies.{width_outside}
 use Rattle.linear_transformation.specs.Plans.{Distinct}
 use Rattle.linear_transformation.specs.Schedules.{plan_giants, plan_words}
-use Rattle.runs.specs.declared.keyed.Survey.{Survey}
+use Rattle.runs.specs.declared.surveying.Asked.{Asked}
+use Rattle.runs.specs.declared.surveying.Powers.{Powers}
+use Rattle.runs.specs.declared.surveying.Survey.{Survey}
 use Rattle.runs.specs.Switches.{rotation_of, giant_schedule}
 use Rattle.runs.specs.Machines.{State, node_sum, node_words, answer_of, machine}
 use Rattle.runs.specs.Steps.Keyed.{nodes_by}
 use Rattle.runs.specs.Steps.Surveys.{takes, Taken}
 
 -- ---- the answer
-
-abbrev pub vector_added : List ℕ → List ℕ → ℕ → ℕ
-vector_added v out s = addm modulus (slice_index out s) (slice_index v s)
 
 pub record AnswerAsked (giants : ℕ) (nodes out : List ℕ) : Type 0 where
   pub some : 1 ≤ length out
@@ -30,10 +29,10 @@ abbrev pub top_by : ℕ → List ℕ → ℕ → List ℕ
 top_by zero nodes slots = tabulate slots (λ s. 0)
 top_by (suc g) nodes slots = take slots nodes
 
--- by the step, 0 per rotation
-abbrev pub answer_by : ℕ → ℕ → List ℕ → ℕ → List ℕ
-answer_by zero giants nodes slots = node_sum modulus slots giants nodes
-answer_by (suc c) giants nodes slots = top_by giants nodes slots
+-- per rotation the sum of all
+abbrev pub answer_by : Option Powers → ℕ → List ℕ → ℕ → List ℕ
+answer_by None giants nodes slots = node_sum modulus slots giants nodes
+answer_by (Some p) giants nodes slots = top_by giants nodes slots
 
 -- ---- the giant switches
 
@@ -87,3 +86,7 @@ pub record RunLeft (strategy : LinearTransformationStrategy) (survey : Survey) (
   pub nodes_are : nodes' ≡ (left_by strategy survey n pairs values input cache nodes log out).nodes
   pub log_is : log' ≡ (left_by strategy survey n pairs values input cache nodes log out).log
   pub out_is : out' ≡ (left_by strategy survey n pairs values input cache nodes log out).out
+
+-- the same of what a run is asked
+abbrev pub RunOf : Asked → Survey → List ℕ → List ℕ → List ℕ → List ℕ → List ℕ → List ℕ → Type 0
+RunOf a survey offsets plan cache nodes log out = RunAsked a.strategy survey offsets a.pairs.now a.values.now a.input.now plan cache nodes log out

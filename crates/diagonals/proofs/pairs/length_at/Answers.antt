@@ -4,10 +4,10 @@ use lib.ListN.{get_or-eq_default}
 use Rattle.diagonals.specs.Maps.{length_at}
 use Rattle.diagonals.proofs.pairs.length_at.Goals as goal
 
-pub returns-then-pairs-i : goal.returns-then-pairs-i
+pub returns-else-i-pairs : goal.returns-else-i-pairs
 unfolding length_at
-returns-then-pairs-i c = sym (get_or-eq_default c.args.pairs.now 0 {n = 2 * c.args.i + 1} (omega arith))
+returns-else-i-pairs c = sym (get_or-eq_default c.args.pairs.now 0 {n = 2 * c.args.i + 1} (omega arith))
 
-pub returns : goal.returns
+pub returns-then-i-pairs : goal.returns-then-i-pairs
 unfolding length_at
-returns c = refl
+returns-then-i-pairs c = refl

@@ -5,4 +5,4 @@ use Rattle.diagonals.proofs.pairs.pair_words.Goals as goal
 
 pub returns : goal.returns
 unfolding pair_room
-returns c = omega (arith, c.wide.ensures)
+returns c = omega (arith)

@@ -21,5 +21,5 @@ returns c =
     let o = c.is_outside.ensures in
     record {
       answer = rw (sym o.answer ∙ c.if-is_outside.false, eq-eqb _ 0 c.if-out-n-ne0.false);
-      out = c.fill.ensures ∙ whole c.args.src.now c.args.k _ _ c.ranges.k (o.inside c.if-is_outside.false).0 (c.wide.ensures ∙ c.residue-from.ensures);
+      out = rw (sym o.answer ∙ c.if-is_outside.false, eq-eqb _ 0 c.if-out-n-ne0.false) (c.fill.ensures ∙ whole c.args.src.now c.args.k _ _ c.ranges.k (o.inside c.if-is_outside.false).0 (c.residue-from.ensures));
     }

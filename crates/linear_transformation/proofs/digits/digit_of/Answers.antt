@@ -10,6 +10,7 @@ use mir.ValLaws.{to_z-of_z}
 use Rattle.linear_transformation.specs.Steps.Numbers.{Digitable}
 use Rattle.linear_transformation.specs.Laws.Digits.{digit_undivided, digit_below, digit_from, below_period, minus}
 use Rattle.linear_transformation.proofs.digits.digit_of.Goals as goal
+use Rattle.linear_transformation.proofs.digits.digit_of.Goals.{then-slots-step-ne0-via-then-slots-step-ne0, then-slots-step-ne0-via-else-slots-step-ne0+then-j-period}
 
 module _ {slots step rot : ℕ} (h : Digitable slots step rot) where
   j-small : rot / step < 65536
@@ -34,10 +35,10 @@ module _ {slots step rot : ℕ} (h : Digitable slots step rot) where
   difference-fits d = rw (minus (rot / step) (slots / step) (below_period slots step rot d h.reduced)) (record { sfits = omega (arith, period-small) })
 
 pub returns-then-slots-step-ne0 : goal.returns-then-slots-step-ne0
-returns-then-slots-step-ne0 c = rw (j_is c.requires) (sym (digit_undivided _ _ c.args.rot c.if-slots-step-ne0.true))
-
-pub returns-then-j-period : goal.returns-then-j-period
-returns-then-j-period c = rw (j_is c.requires) (sym (digit_below _ _ c.args.rot c.if-slots-step-ne0.false (omega (arith, c.if-j-period.true))))
+returns-then-slots-step-ne0 c = elim c.then-slots-step-ne0.branch [
+  | then-slots-step-ne0-via-then-slots-step-ne0 w ↦ rw (j_is c.requires) (sym (digit_undivided _ _ c.args.rot w.if-slots-step-ne0.true))
+  | then-slots-step-ne0-via-else-slots-step-ne0+then-j-period w ↦ rw (j_is c.requires) (sym (digit_below _ _ c.args.rot w.if-slots-step-ne0.false (omega (arith, w.if-j-period.true))))
+]
 
 pub returns : goal.returns
 returns c = rw (difference-is c.requires, to_z-of_z w64 _ (difference-fits c.requires c.if-slots-step-ne0.false)) (sym (digit_from _ _ c.args.rot c.if-slots-step-ne0.false (omega (arith, c.if-j-period.false))))

@@ -2,5 +2,5 @@
 use Rattle.linear_transformation.proofs.Listings.{Measuring}
 use Rattle.linear_transformation.proofs.giants.largest_digit.Given as goal
 
-abbrev pub invariant-loop-t : goal.invariant-loop-t
-invariant-loop-t l = Measuring l.slots l.step l.giants l.x l.t
+abbrev pub invariant-loop-giant : goal.invariant-loop-giant
+invariant-loop-giant l = Measuring l.slots l.step l.giants l.x l.giant-index

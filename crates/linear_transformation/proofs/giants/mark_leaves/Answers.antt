@@ -3,5 +3,5 @@ use borrow.Author.Rules.{rules}
 use Rattle.linear_transformation.proofs.Listings.{marking_more}
 use Rattle.linear_transformation.proofs.giants.mark_leaves.Goals as goal
 
-pub loop-t-preserved : goal.loop-t-preserved
-loop-t-preserved c = search (marking_more, rules)
+pub loop-giant-preserved : goal.loop-giant-preserved
+loop-giant-preserved c = search (marking_more, rules)

@@ -2,5 +2,5 @@
 use Rattle.linear_transformation.proofs.Listings.{Marking}
 use Rattle.linear_transformation.proofs.giants.mark_leaves.Given as goal
 
-abbrev pub invariant-loop-t : goal.invariant-loop-t
-invariant-loop-t l = Marking l.slots l.step l.bits l.giants l.heap l.t
+abbrev pub invariant-loop-giant : goal.invariant-loop-giant
+invariant-loop-giant l = Marking l.slots l.step l.bits l.giants l.heap l.giant-index

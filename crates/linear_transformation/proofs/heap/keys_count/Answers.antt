@@ -1,11 +1,13 @@
 -- `linear_transformation::heap::keys_count` meets its contract. Assumes nothing.
-use borrow.Author.Rules.{rules}
-use Rattle.linear_transformation.proofs.Writing.{keying_none, keying_yes, keying_no}
+use Rattle.std.proofs.Common.{◌≡◌, ◌∙◌, length, not, eqb, rules}
+use Rattle.std.specs.List.{count_by}
+use Rattle.std.proofs.iter.runs.Sources.{ranges}
+use Rattle.linear_transformation.specs.Steps.Trees.{level_pairs}
+use Rattle.linear_transformation.proofs.Ranges.{upto, range_folds, counted}
+use Rattle.linear_transformation.proofs.Writing.{keys_counted}
 use Rattle.linear_transformation.proofs.heap.keys_count.Goals as goal
-use Rattle.linear_transformation.proofs.heap.keys_count.Goals.{else-level_size-ne0, then-level_size-ne0}
 
-pub loop-i-init : goal.loop-i-init
-loop-i-init c = rw c.power-size.ensures (keying_none _ _ _ _)
-
-pub loop-i-preserved : goal.loop-i-preserved
-loop-i-preserved c = elim c.if-level_size-ne0.branch [ then-level_size-ne0 w ↦ rw w.n-is (search (keying_yes, rules)) | else-level_size-ne0 w ↦ rw w.n-is (search (keying_no, rules)) ]
+pub returns : goal.returns
+returns c =
+    let h : c.count.result ≡ count_by (λ i. not (eqb (length (level_pairs c.args.heap.now c.args.bits i)) 0)) (upto c.args.bits) = search (rules, range_folds, ranges) in
+    h ∙ counted _ c.args.bits ∙ keys_counted c.args.slots c.args.step c.args.bits c.args.heap.now c.args.bits

@@ -1,15 +1,18 @@
 -- `linear_transformation::heap::tree_size` meets its contract. Assumes nothing.
-use borrow.Author.Rules.{rules}
-use native.Mathlib.Omega.{arith}
-use Rattle.linear_transformation.proofs.Heaps.{totalling_none, totalling_low, totalling_more, pairs_le}
-use Prim.Native.Nat.{◌/◌}
+use Rattle.std.proofs.Common.{◌≡◌, ◌∙◌, ◌<◌, ◌^◌, length, rules}
+use Rattle.std.specs.List.{sum_by}
+use Rattle.std.proofs.iter.runs.Sources.{ranges}
+use Rattle.linear_transformation.specs.Steps.Trees.{level_pairs}
+use Rattle.linear_transformation.proofs.Ranges.{upto, range_folds}
+use Rattle.linear_transformation.proofs.Heaps.{switches_counted, total_low}
 use Rattle.linear_transformation.proofs.heap.tree_size.Goals as goal
 
-pub loop-i-init : goal.loop-i-init
-loop-i-init c = rw c.power-size.ensures (totalling_none _ _)
+pub sum-requires-clause-fits : goal.sum-requires-clause-fits
+sum-requires-clause-fits c =
+    let low : sum_by (λ i. length (level_pairs c.args.heap.now c.args.bits i)) (upto c.args.bits) < 2 ^ 64 = total_low c.args.heap.now c.requires in
+    search (rules, range_folds, ranges)
 
-pub overflow_add-n : goal.overflow_add-n
-overflow_add-n c = omega (arith, totalling_low c.loop-i.invariant c.requires, c.level_size-n.ensures, pairs_le c.args.heap.now (c.loop-i.size / 2) (c.loop-i.size / 2))
-
-pub loop-i-preserved : goal.loop-i-preserved
-loop-i-preserved c = search (totalling_more, rules)
+pub returns : goal.returns
+returns c =
+    let h : c.sum.result ≡ sum_by (λ i. length (level_pairs c.args.heap.now c.args.bits i)) (upto c.args.bits) = search (rules, range_folds, ranges) in
+    h ∙ switches_counted c.args.bits c.args.heap.now c.args.bits

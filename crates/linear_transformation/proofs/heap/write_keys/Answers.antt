@@ -8,7 +8,7 @@ use Rattle.linear_transformation.proofs.heap.write_keys.Goals as goal
 use Rattle.linear_transformation.proofs.heap.write_keys.Goals.{else-level_size-ne0, then-level_size-ne0}
 
 pub loop-i-init : goal.loop-i-init
-loop-i-init c = rw c.power-size.ensures (writing_none _ _ _ _ _ _ c.requires.bits_in_bounds)
+loop-i-init c = (writing_none _ _ _ _ _ _ c.requires.bits_in_bounds)
 
 pub offset_bounds-out-to : goal.offset_bounds-out-to
 offset_bounds-out-to c =

@@ -3,4 +3,4 @@ use Rattle.linear_transformation.proofs.Writing.{KeyWriting}
 use Rattle.linear_transformation.proofs.heap.write_keys.Given as goal
 
 abbrev pub invariant-loop-i : goal.invariant-loop-i
-invariant-loop-i l = KeyWriting l.slots l.step l.bits l.heap l.at l.initial.out l.out l.size l.to l.i
+invariant-loop-i l = KeyWriting l.slots l.step l.bits l.heap l.at l.initial.out l.out l.to l.i

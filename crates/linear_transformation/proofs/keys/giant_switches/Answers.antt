@@ -1,15 +1,12 @@
 -- `linear_transformation::keys::giant_switches` meets its contract. Assumes nothing.
-use mathlib.Core.Path.{ap}
-use Rattle.linear_transformation.specs.Plans.{width_of}
-use Rattle.linear_transformation.specs.Steps.Keys.{Sizable}
+use Rattle.std.proofs.Common.{sym, ◌∙◌}
+use Rattle.linear_transformation.proofs.Strategies.{powers, own}
 use Rattle.linear_transformation.proofs.Keyings.{of_width}
-use Rattle.linear_transformation.proofs.KeyAnswers.{width_switches, direct_switches}
+use Rattle.linear_transformation.proofs.KeyAnswers.{own_switches, powers_switches}
 use Rattle.linear_transformation.proofs.keys.giant_switches.Goals as goal
 
-pub returns-in-Bsgs : goal.returns-in-Bsgs
-returns-in-Bsgs c =
-    let width_in : Sizable c.args.slots c.in-Bsgs.g c.args.ds.now = of_width c.requires (ap width_of c.in-Bsgs.is) in
-    width_switches width_in c.count_turns.ensures c.in-Bsgs.is
+pub returns-then-turns_each : goal.returns-then-turns_each
+returns-then-turns_each c = own_switches (of_width c.requires (sym c.word_width-width.ensures)) c.count_turns.ensures (own (sym c.turns_each.ensures ∙ c.if-turns_each.true) _ _) c.word_width-width.ensures
 
-pub returns-in-Direct : goal.returns-in-Direct
-returns-in-Direct c = direct_switches (of_width c.requires (ap width_of c.in-Direct.is)) c.count_turns-in-Direct.ensures c.in-Direct.is
+pub returns : goal.returns
+returns c = powers_switches (powers (sym c.turns_each.ensures ∙ c.if-turns_each.false) c.word_width-width.ensures) c.count_pairs.ensures

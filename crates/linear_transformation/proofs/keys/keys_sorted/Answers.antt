@@ -1,9 +1,11 @@
 -- `linear_transformation::keys::keys_sorted` meets its contract. Assumes nothing.
-use Rattle.linear_transformation.proofs.KeyAnswers.{keys_width, keys_direct}
+use Rattle.std.proofs.Common.{sym, ◌∙◌}
+use Rattle.linear_transformation.proofs.Strategies.{powers, own}
+use Rattle.linear_transformation.proofs.KeyAnswers.{keys_own, keys_powers}
 use Rattle.linear_transformation.proofs.keys.keys_sorted.Goals as goal
 
-pub returns-in-Bsgs : goal.returns-in-Bsgs
-returns-in-Bsgs c = keys_width _ _ c.in-Bsgs.is c.own_keys.ensures
+pub returns-then-turns_each : goal.returns-then-turns_each
+returns-then-turns_each c = keys_own _ _ (own (sym c.turns_each.ensures ∙ c.if-turns_each.true) _ _) c.word_width-width.ensures c.own_keys.ensures
 
-pub returns-in-Direct : goal.returns-in-Direct
-returns-in-Direct c = keys_direct _ _ c.in-Direct.is c.own_keys-in-Direct.ensures
+pub returns : goal.returns
+returns c = keys_powers _ _ (powers (sym c.turns_each.ensures ∙ c.if-turns_each.false) c.word_width-width.ensures) c.keys_planted.ensures

@@ -1,16 +1,16 @@
 -- `linear_transformation::keys::largest_turn` meets its contract. Assumes nothing.
 use borrow.Author.Rules.{rules}
+use Rattle.linear_transformation.proofs.Plannings.{going_first, going_on, run_inside, run_now}
 use Rattle.linear_transformation.proofs.Keyings.{topping_none, topping_more, sized, plan_giant}
 use Rattle.linear_transformation.proofs.keys.largest_turn.Goals as goal
 
-pub loop-at-init : goal.loop-at-init
-loop-at-init c = topping_none _ _ _
-
-pub run_from-run-requires : goal.run_from-run-requires
-run_from-run-requires c = record { diagonals = sized c.requires; at_in_bounds = search rules }
+pub loop-run-init : goal.loop-run-init
+loop-run-init c =
+    let g = going_first (sized c.requires) c.of-run-items.ensures c.into_iter-run-iterator.ensures.into_iter_gives in
+    (g.0, rw g.1 (topping_none c.args.slots c.args.width c.args.ds.now))
 
 pub digit_at-requires : goal.digit_at-requires
-digit_at-requires c = search (plan_giant, rules)
+digit_at-requires c = plan_giant c.requires (run_inside c.loop-run.invariant.0.2 c.in-Some.ensures.steps) (run_now c.loop-run.invariant.0.2 c.in-Some.ensures.steps)
 
-pub loop-at-preserved : goal.loop-at-preserved
-loop-at-preserved c = search (topping_more, rules)
+pub loop-run-preserved : goal.loop-run-preserved
+loop-run-preserved c = (going_on c.loop-run.invariant.0 c.in-Some.ensures.steps, topping_more c.loop-run.invariant.1 c.requires (run_inside c.loop-run.invariant.0.2 c.in-Some.ensures.steps) (run_now c.loop-run.invariant.0.2 c.in-Some.ensures.steps) c.digit_at.ensures c.magnitude.ensures (search rules))

@@ -1,11 +1,7 @@
 -- `linear_transformation::keys::largest_turn` meets its contract. Assumes nothing.
-use Prim.Native.Nat.{◌-◌}
-use lib.ListN.{length}
+use Rattle.linear_transformation.proofs.Plannings.{Going}
 use Rattle.linear_transformation.proofs.Keyings.{Topping}
 use Rattle.linear_transformation.proofs.keys.largest_turn.Given as goal
 
-abbrev pub invariant-loop-at : goal.invariant-loop-at
-invariant-loop-at l = Topping l.slots l.width l.ds l.x l.at
-
-abbrev pub decreases-loop-at : goal.decreases-loop-at
-decreases-loop-at l = length l.ds - l.at
+abbrev pub invariant-loop-run : goal.invariant-loop-run
+invariant-loop-run l = Going l.width l.ds l.run-iterator × Topping l.slots l.width l.ds l.x l.run-iterator.at

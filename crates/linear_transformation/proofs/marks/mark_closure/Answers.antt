@@ -6,4 +6,4 @@ pub close-requires : goal.close-requires
 close-requires c = may_close c.requires.sizable c.mark_babies.ensures c.multiples_end-n.ensures
 
 pub returns : goal.returns
-returns c = closure_table c.requires.sizable c.baby_step_of-step.ensures c.multiples_end-n.ensures c.mark_babies.ensures c.close.ensures c.wide.ensures
+returns c = closure_table c.requires.sizable c.baby_step_of-step.ensures c.multiples_end-n.ensures c.mark_babies.ensures c.close.ensures

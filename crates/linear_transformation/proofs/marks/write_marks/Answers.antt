@@ -1,34 +1,33 @@
 -- `linear_transformation::marks::write_marks` meets its contract. Assumes nothing.
 use borrow.Author.Rules.{rules}
 use native.Mathlib.Omega.{arith}
-use lib.ListN.{length}
-use Prim.Native.Nat.{◌≤◌, ◌<◌}
+use Prim.Native.Nat.{◌<◌}
+use Rattle.linear_transformation.proofs.Writings.{front_place, front_end, front_mark}
 use Rattle.linear_transformation.proofs.BabyTables.{listing_none, listing_room, listing_low, listing_yes, listing_no, listing_writing}
 use Rattle.linear_transformation.proofs.marks.write_marks.Goals as goal
-use Rattle.linear_transformation.proofs.marks.write_marks.Goals.{else-seen-k, then-seen-k}
+use Rattle.linear_transformation.proofs.marks.write_marks.Goals.{else-is_marked, then-is_marked}
 
 pub loop-k-init : goal.loop-k-init
 loop-k-init c = listing_none _ _ _ _
 
 pub offset_bounds-out-at : goal.offset_bounds-out-at
-offset_bounds-out-at c =
-    let room : c.loop-k.at < length c.loop-k.out = search (listing_room, listing_low, rules) in
-    let at_low : c.loop-k.at ≤ 65536 = omega (arith, listing_low c.loop-k.invariant, c.loop-k.invariant.room, c.requires.n_bound) in
-    omega (arith, at_low)
+offset_bounds-out-at c = omega (arith, listing_low c.loop-k.invariant, c.loop-k.invariant.room, c.requires.n_bound)
 
 pub bounds-out-at : goal.bounds-out-at
 bounds-out-at c =
-    let room : c.loop-k.at < length c.loop-k.out = search (listing_room, listing_low, rules) in
-    room
+    let l : c.loop-k.k < c.args.n = front_place c.args.seen.now (search rules) (search rules) in
+    listing_room c.loop-k.invariant l c.requires.n_in_bounds (front_mark c.args.seen.now l (search rules))
 
 pub overflow_add-at : goal.overflow_add-at
-overflow_add-at c =
-    let room : c.loop-k.at < length c.loop-k.out = search (listing_room, listing_low, rules) in
-    let at_low : c.loop-k.at ≤ 65536 = omega (arith, listing_low c.loop-k.invariant, c.loop-k.invariant.room, c.requires.n_bound) in
-    omega (arith, at_low)
+overflow_add-at c = omega (arith, listing_low c.loop-k.invariant, c.loop-k.invariant.room, c.requires.n_bound)
 
 pub loop-k-preserved : goal.loop-k-preserved
-loop-k-preserved c = elim c.if-seen-k.branch [ then-seen-k w ↦ rw (w.out-is, w.at-is) (search (listing_yes, rules)) | else-seen-k w ↦ rw (w.out-is, w.at-is) (search (listing_no, rules)) ]
+loop-k-preserved c =
+    let l : c.loop-k.k < c.args.n = front_place c.args.seen.now (search rules) (search rules) in
+    elim c.if-is_marked.branch [
+      | then-is_marked w ↦ rw (w.out-is, w.at-is) (listing_yes c.loop-k.invariant l c.requires.n_in_bounds (search rules) (front_mark c.args.seen.now l (search rules)))
+      | else-is_marked w ↦ rw (w.out-is, w.at-is) (listing_no c.loop-k.invariant l (front_mark c.args.seen.now l (search rules)))
+    ]
 
 pub returns : goal.returns
-returns c = search (listing_writing, rules)
+returns c = listing_writing c.loop-k.invariant (front_end c.args.seen.now (search rules) (search rules))

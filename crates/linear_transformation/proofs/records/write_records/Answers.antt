@@ -1,14 +1,16 @@
--- `linear_transformation::records::write_records` meets its contract. A turn asks `next_pair` for the cursor and `pair_at`
--- for the record. Assumes nothing.
-use Rattle.std.proofs.Common.{arith}
-use Rattle.linear_transformation.proofs.Recording.{recorded_none, recorded_more, recorded_all}
+-- `linear_transformation::records::write_records` meets its contract. Assumes nothing.
+use Rattle.std.proofs.Common.{rules}
+use Rattle.linear_transformation.proofs.Recording.{recorded_none, recorded_room, recorded_more, recorded_all}
 use Rattle.linear_transformation.proofs.records.write_records.Goals as goal
 
-pub loop-i-init : goal.loop-i-init
-loop-i-init c = (omega arith, recorded_none (λ some_left. c.requires.start (omega (arith, c.requires.count))))
+pub loop-level-init : goal.loop-level-init
+loop-level-init c = recorded_none _ _ _
 
-pub loop-i-preserved : goal.loop-i-preserved
-loop-i-preserved c = (omega arith, rw c.pair_at.ensures (recorded_more c.loop-i.invariant.1 c.next_pair-at.ensures (omega (arith, c.requires.room))))
+pub write_level-at-requires-clause-room : goal.write_level-at-requires-clause-room
+write_level-at-requires-clause-room c = recorded_room c.loop-level.invariant c.loop-level-test.true c.requires.room
+
+pub loop-level-preserved : goal.loop-level-preserved
+loop-level-preserved c = recorded_more c.loop-level.invariant c.loop-level-test.true c.write_level-at.ensures
 
 pub returns : goal.returns
-returns c = recorded_all c.loop-i.invariant.1 (omega arith)
+returns c = recorded_all c.loop-level.invariant (search rules)

@@ -2,5 +2,5 @@
 use Rattle.linear_transformation.proofs.Storings.{Ascending}
 use Rattle.linear_transformation.proofs.stored.are_rising.Given as goal
 
-abbrev pub invariant-loop-t : goal.invariant-loop-t
-invariant-loop-t l = Ascending l.slots l.offsets l.next l.t
+abbrev pub invariant-loop-offset : goal.invariant-loop-offset
+invariant-loop-offset l = Ascending l.slots l.offsets l.next l.offset-index

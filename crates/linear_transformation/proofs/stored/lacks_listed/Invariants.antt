@@ -1,5 +1,5 @@
 use Rattle.linear_transformation.proofs.Missings.{ListHeld}
 use Rattle.linear_transformation.proofs.stored.lacks_listed.Given as goal
 
-abbrev pub invariant-loop-t : goal.invariant-loop-t
-invariant-loop-t l = ListHeld l.count l.list l.seen l.t
+abbrev pub invariant-loop-k : goal.invariant-loop-k
+invariant-loop-k l = ListHeld l.keys l.seen l.k-index

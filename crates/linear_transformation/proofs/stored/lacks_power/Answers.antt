@@ -9,7 +9,7 @@ pub returns-in_default : goal.returns-in_default
 returns-in_default c = never_refused c.requires.sizable (length-replicate {A = ℕ} 32 0) c.power_keys.ensures c.in_default.is
 
 pub lacks_listed-requires : goal.lacks_listed-requires
-lacks_listed-requires c = record { listed = powers_listed c.requires.sizable (length-replicate {A = ℕ} 32 0) c.power_keys.ensures c.in-Is.is (search rules); seen_len = search rules }
+lacks_listed-requires c = record { low = powers_listed c.requires.sizable (length-replicate {A = ℕ} 32 0) c.power_keys.ensures c.in-Ok.is; seen_len = search rules }
 
 pub returns : goal.returns
-returns c = powers_lacking c.requires.sizable (length-replicate {A = ℕ} 32 0) c.power_keys.ensures c.in-Is.is c.lacks_listed.ensures
+returns c = powers_lacking c.requires.sizable (length-replicate {A = ℕ} 32 0) c.power_keys.ensures c.in-Ok.is c.lacks_listed.ensures

@@ -2,5 +2,5 @@
 use Rattle.linear_transformation.proofs.Missings.{Holding}
 use Rattle.linear_transformation.proofs.stored.mark_held.Given as goal
 
-abbrev pub invariant-loop-t : goal.invariant-loop-t
-invariant-loop-t l = Holding l.held l.seen l.t
+abbrev pub invariant-loop-k : goal.invariant-loop-k
+invariant-loop-k l = Holding l.held l.seen l.k-index

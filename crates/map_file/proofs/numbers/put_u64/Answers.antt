@@ -1,21 +1,13 @@
 -- `map_file::numbers::put_u64` meets its contract. Assumes nothing.
-use Prim.Native.Nat.{ℕ, ◌+◌, ◌*◌, ◌/◌, ◌%◌}
-use mathlib.Core.Path.{◌≡◌, sym, ap, ◌∙◌}
-use mathlib.Core.List.{List}
-use native.Mathlib.Nat.{mod-add-div}
-use native.Mathlib.Omega.{arith}
-use Rattle.ring.specs.Vectors.{put_at}
-use Rattle.ring.specs.Laws.Places.{put_both}
+use Rattle.std.proofs.Common.{◌≡◌, ◌+◌, ◌-◌, ◌∙◌, arith, w64}
+use Rattle.ring.specs.Vectors.{in_front, put_at}
 use Rattle.map_file.specs.Files.{bytes_of}
-use Rattle.map_file.specs.Laws.Numbers.{length_bytes_of, bytes_add}
+use Rattle.map_file.specs.Laws.Numbers.{length_bytes_of, le_bytes}
 use Rattle.map_file.proofs.numbers.put_u64.Goals as goal
 
 pub returns : goal.returns
+unfolding put_at in_front
 returns c =
-    let a = c.args in
-    let e : a.x % 4294967296 + 4294967296 * (a.x / 4294967296) ≡ a.x = mod-add-div a.x 4294967296 in
-    let l = c.requires in
-    c.put_u32-2.ensures
-    ∙ ap (put_at (a.at + 4) (bytes_of 4 (a.x / 4294967296))) c.put_u32.ensures
-    ∙ put_both a.at (a.at + 4) (bytes_of 4 (a.x % 4294967296)) (bytes_of 4 (a.x / 4294967296)) a.out.now (omega arith) (rw length_bytes_of)
-    ∙ ap (λ (t : List ℕ). put_at a.at t a.out.now) (sym (bytes_add 4 4 (a.x % 4294967296) (a.x / 4294967296) (omega arith)) ∙ ap (bytes_of 8) e)
+    let size : c.args.at + 8 - c.args.at ≡ 8 = omega arith in
+    let bytes : c.copy_from_slice.new.self ≡ bytes_of 8 c.args.x = c.copy_from_slice.ensures.after ∙ c.to_le_bytes.ensures ∙ le_bytes w64 c.args.x in
+    rw (bytes, size, length_bytes_of)

@@ -1,14 +1,13 @@
 -- `map_file::reading::read_values` meets its contract. Assumes nothing.
-use mathlib.Core.Path.{refl}
 use borrow.Author.Rules.{rules}
 use Rattle.ring.specs.Laws.Vectors.{filling_none, filling_more, filling_done}
 use Rattle.map_file.proofs.reading.read_values.Goals as goal
 
 pub loop-j-init : goal.loop-j-init
-loop-j-init c = (filling_none _ _, refl)
+loop-j-init c = filling_none _ _
 
 pub loop-j-preserved : goal.loop-j-preserved
-loop-j-preserved c = (filling_more c.loop-j.invariant.0 (search rules) c.u64_at.ensures, c.loop-j.invariant.1)
+loop-j-preserved c = filling_more c.loop-j.invariant (search rules) c.u64_at.ensures
 
 pub returns : goal.returns
-returns c = filling_done c.loop-j.invariant.0 (search rules)
+returns c = filling_done c.loop-j.invariant (search rules)

@@ -1,5 +1,4 @@
 -- `map_file::reading::total_in` meets its contract. Assumes nothing.
-use Prim.Native.Nat.{◌-◌}
 use Rattle.diagonals.specs.Maps.{pair_words}
 use Rattle.diagonals.specs.Laws.Checking.{Checking}
 use Rattle.map_file.specs.Files.{map_in}
@@ -7,6 +6,3 @@ use Rattle.map_file.proofs.reading.total_in.Given as goal
 
 abbrev pub invariant-loop-i : goal.invariant-loop-i
 invariant-loop-i l = Checking l.slots l.count (pair_words (map_in l.bytes)) l.total l.next l.i
-
-abbrev pub decreases-loop-i : goal.decreases-loop-i
-decreases-loop-i l = l.count - l.i

@@ -1,12 +1,20 @@
 -- `maps::replicated::tau_rep` meets its contract. Assumes nothing.
+use Rattle.std.proofs.Common.{◌≡◌, Err, length-take-le, rules}
+use Rattle.maps.specs.Laws.Tiling.{rows_are, size_is}
 use Rattle.maps.specs.Laws.Blocks.{tau_no_room, tau_written}
 use Rattle.maps.proofs.replicated.tau_rep.Goals as goal
 
-pub returns-then-room-ne0 : goal.returns-then-room-ne0
-returns-then-room-ne0 c = tau_no_room c.tiles_refusal-code.ensures c.if-code-ne0.false _ _ (rw c.side-d.ensures at c.room_refusal-room.ensures) c.if-room-ne0.true
+pub returns-in_err-check_room : goal.returns-in_err-check_room
+returns-in_err-check_room c =
+    let t = c.check_tiles.ensures.accepted _ c.in_ok-side.was in
+    let e : c.from_residual-in_err-check_room.result ≡ Err c.in_err-check_room.field-0.0 = search rules in
+    rw e (tau_no_room c.args.slots _ t.none _ _ (rw (rows_are t c.rows-d.ensures, size_is t c.size-total.ensures) at c.check_room.ensures) c.in_err-check_room.was)
 
 pub returns : goal.returns
 returns c =
-    let e = c.side-d.ensures in
-    rw e
-    (tau_written c.tiles_refusal-code.ensures c.if-code-ne0.false _ _ (rw e at c.room_refusal-room.ensures) c.if-room-ne0.false (rw e at c.write_pairs.ensures) c.write_masks.ensures)
+    let t = c.check_tiles.ensures.accepted _ c.in_ok-side.was in
+    let d = rows_are t c.rows-d.ensures in
+    let total = size_is t c.size-total.ensures in
+    let room = c.check_room.ensures.values_fit c.in_ok-check_room.was in
+    rw (d, total)
+    (tau_written c.args.slots _ t.none _ _ (rw (d, total) at c.check_room.ensures) c.in_ok-check_room.was (rw d at c.write_pairs.ensures) (rw (length-take-le _ _ room, t.log_is, total) at c.write_masks.ensures))

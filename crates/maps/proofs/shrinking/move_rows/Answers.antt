@@ -1,14 +1,18 @@
 -- `maps::shrinking::move_rows` meets its contract. Assumes nothing.
-use Rattle.std.proofs.Common.{refl, arith}
-use Rattle.ring.specs.Laws.Vectors.{filling_none, filling_more, filling_rest}
-use Rattle.maps.specs.Laws.Narrow.{narrow_fits, moved_behind}
+use Rattle.std.proofs.Common.{◌≡◌, ◌+◌, ◌-◌, ◌*◌, zero-mul, arith}
+use Rattle.ring.specs.Laws.Vectors.{filling_none}
+use Rattle.maps.specs.Laws.Narrow.{row_moved}
 use Rattle.maps.proofs.shrinking.move_rows.Goals as goal
 
-pub loop-x-init : goal.loop-x-init
-loop-x-init c = (filling_none _ _, (omega arith, refl))
+pub loop-i-init : goal.loop-i-init
+loop-i-init c = (rw (zero-mul c.args.p) (filling_none _ _), omega arith)
 
-pub loop-x-preserved : goal.loop-x-preserved
-loop-x-preserved c =
-    let i = c.loop-x.invariant.0 in
-    let n = c.requires in
-    (filling_more i (omega (arith, narrow_fits n, i.len)) (filling_rest i _ 0 (moved_behind n c.loop-x.x)), (omega arith, refl))
+pub loop-i-preserved : goal.loop-i-preserved
+loop-i-preserved c =
+    let size : c.loop-i.i * c.args.period + c.args.p - c.loop-i.i * c.args.period ≡ c.args.p = omega arith in
+    (rw (c.copy_within.ensures.after, size) (row_moved c.requires c.loop-i-test.true c.loop-i.invariant.0), omega arith)
+
+pub returns : goal.returns
+returns c =
+    let end : c.loop-i.i ≡ c.args.count = omega (arith, c.loop-i.invariant.1, c.loop-i-test.false) in
+    rw end at c.loop-i.invariant.0.so_far

@@ -1,28 +1,32 @@
 -- `runs::keyed::run_listed` meets its contract. Assumes nothing.
-use Rattle.std.proofs.Common.{sym, length-take-le}
+use Rattle.std.proofs.Common.{Err, rules, ◌≡◌, sym, length-take-le}
 use Rattle.runs.proofs.KeyedRunning.{survey_refused, sizes, small, few, room_refused, ready, accepted_run}
 use Rattle.runs.proofs.keyed.run_listed.Goals as goal
 
-pub returns-then-survey-ne0 : goal.returns-then-survey-ne0
-returns-then-survey-ne0 c = survey_refused c.look_over-survey.ensures c.args.n c.args.room c.args.plan.now c.args.cache.now c.args.nodes.now c.args.log.now c.args.out.now c.if-survey-ne0.true
+pub returns-in_err-survey-clause-run : goal.returns-in_err-survey-clause-run
+returns-in_err-survey-clause-run c =
+    let e : c.from_residual.result ≡ Err c.in_err-survey.field-0.0 = search rules in
+    rw e (survey_refused c.look_over.ensures c.args.n c.args.room c.args.words.now.plan.now c.args.words.now.cache.now c.args.words.now.nodes.now c.args.words.now.log.now c.args.words.now.out.now c.in_err-survey.was)
 
-pub room_refusal-code-requires : goal.room_refusal-code-requires
-room_refusal-code-requires c = sizes c.look_over-survey.ensures c.if-survey-ne0.false
+pub check_room-requires : goal.check_room-requires
+check_room-requires c = sizes c.look_over.ensures c.in_ok-survey.was
 
-pub returns-then-code-ne0 : goal.returns-then-code-ne0
-returns-then-code-ne0 c = room_refused c.look_over-survey.ensures c.if-survey-ne0.false c.args.n c.args.room c.args.plan.now c.args.cache.now c.args.nodes.now c.args.log.now c.args.out.now c.room_refusal-code.ensures c.if-code-ne0.true
+pub returns-in_err-check_room-clause-run : goal.returns-in_err-check_room-clause-run
+returns-in_err-check_room-clause-run c =
+    let e : c.from_residual-in_err-check_room.result ≡ Err c.in_err-check_room.field-0.0 = search rules in
+    rw e (room_refused c.look_over.ensures c.in_ok-survey.was c.args.n c.args.room c.args.words.now.plan.now c.args.words.now.cache.now c.args.words.now.nodes.now c.args.words.now.log.now c.args.words.now.out.now c.check_room.ensures c.in_err-check_room.was)
 
-pub slice_bounds-ks-end : goal.slice_bounds-ks-end
-slice_bounds-ks-end c = few c.look_over-survey.ensures c.if-survey-ne0.false c.requires
+pub slice_bounds-run_accepted-end : goal.slice_bounds-run_accepted-end
+slice_bounds-run_accepted-end c = few c.look_over.ensures c.in_ok-survey.was c.requires
 
-pub slice_bounds-ks-end-2 : goal.slice_bounds-ks-end-2
-slice_bounds-ks-end-2 c = sym (length-take-le _ _ (few c.look_over-survey.ensures c.if-survey-ne0.false c.requires))
+pub slice_bounds-run_accepted-end-2 : goal.slice_bounds-run_accepted-end-2
+slice_bounds-run_accepted-end-2 c = sym (length-take-le _ _ (few c.look_over.ensures c.in_ok-survey.was c.requires))
 
 pub run_accepted-requires : goal.run_accepted-requires
-run_accepted-requires c = ready c.look_over-survey.ensures c.if-survey-ne0.false c.args.n c.args.room c.args.plan.now c.args.cache.now c.args.nodes.now c.args.log.now c.args.out.now c.room_refusal-code.ensures c.if-code-ne0.false
+run_accepted-requires c = ready c.look_over.ensures c.in_ok-survey.was c.args.n c.args.room c.args.words.now.plan.now c.args.words.now.cache.now c.args.words.now.nodes.now c.args.words.now.log.now c.args.words.now.out.now c.check_room.ensures c.in_ok-check_room.was
 
-pub answer_of-requires : goal.answer_of-requires
-answer_of-requires c = small c.look_over-survey.ensures c.if-survey-ne0.false
+pub progress_of-requires : goal.progress_of-requires
+progress_of-requires c = small c.look_over.ensures c.in_ok-survey.was
 
-pub returns : goal.returns
-returns c = accepted_run c.look_over-survey.ensures c.if-survey-ne0.false c.args.n c.args.room c.args.plan.now c.args.cache.now c.args.nodes.now c.args.log.now c.args.out.now c.room_refusal-code.ensures c.if-code-ne0.false c.run_accepted.ensures c.answer_of.ensures
+pub returns-clause-run : goal.returns-clause-run
+returns-clause-run c = accepted_run c.look_over.ensures c.in_ok-survey.was c.args.n c.args.room c.args.words.now.plan.now c.args.words.now.cache.now c.args.words.now.nodes.now c.args.words.now.log.now c.args.words.now.out.now c.check_room.ensures c.in_ok-check_room.was c.run_accepted.ensures.left c.progress_of.ensures

@@ -11,13 +11,14 @@ pub slice_bounds-make_babies-end : goal.slice_bounds-make_babies-end
 slice_bounds-make_babies-end c = sym (length-take-le _ _ (omega (arith, plan_parts c.requires)))
 
 pub make_babies-requires : goal.make_babies-requires
-make_babies-requires c = record { caching = babies_asked c.requires; n_in_bounds = first_babies c.requires _ c.least-first.ensures; n_in_bounds_2 = first_logged c.requires _ c.least-first.ensures }
+make_babies-requires c = record { caching = babies_asked c.requires; n_in_bounds = first_babies c.requires _ c.min-first.ensures; n_in_bounds_2 = first_logged c.requires _ c.min-first.ensures }
 
 pub returns-then-n-own : goal.returns-then-n-own
-returns-then-n-own c = stopped c.requires _ c.least-first.ensures c.make_babies.ensures c.if-n-own.true
+returns-then-n-own c = stopped c.requires _ c.min-first.ensures c.make_babies.ensures c.if-n-own.true
 
+-- the check finds it alone; it stands here so that a wrong program is refused at it
 pub run_giants-requires-clause-babies_bound : goal.run_giants-requires-clause-babies_bound
 run_giants-requires-clause-babies_bound c = omega arith
 
 pub returns : goal.returns
-returns c = gone_on c.requires _ c.least-first.ensures c.make_babies.ensures (omega arith) c.run_giants.ensures
+returns c = gone_on c.requires _ c.min-first.ensures c.make_babies.ensures (omega arith) c.run_giants.ensures

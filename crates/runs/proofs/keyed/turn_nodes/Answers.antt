@@ -1,21 +1,27 @@
 -- `runs::keyed::turn_nodes` meets its contract. Assumes nothing.
-use Rattle.runs.proofs.NodeTurning.{turns_inside, turns_asked, turned_own, bits_low, pairs_asked, turned_pairs}
+use Rattle.std.proofs.Common.{refl}
+use Rattle.runs.proofs.NodeTurning.{turns_inside, turns_asked, turned_own, tree_width, tree_bits, tree_giants, tree_leaves, pairs_asked, turned_pairs}
 use Rattle.runs.proofs.keyed.turn_nodes.Goals as goal
 
 pub overflow_sub-start : goal.overflow_sub-start
-overflow_sub-start c = turns_inside c.requires.turning_asked c.requires.step_value c.requires.turns_value c.if-step-eq0.true
+overflow_sub-start c = turns_inside c.requires.turning_asked c.requires.powers_value c.requires.turns_value c.in-None.is
 
 pub turn_giants-requires : goal.turn_giants-requires
-turn_giants-requires c = turns_asked c.requires.turning_asked c.requires.step_value c.requires.turns_value c.if-step-eq0.true
+turn_giants-requires c = turns_asked c.requires.turning_asked c.requires.powers_value c.requires.turns_value c.in-None.is
 
-pub returns-then-step-eq0 : goal.returns-then-step-eq0
-returns-then-step-eq0 c = turned_own c.requires.turning_asked c.requires.step_value c.requires.turns_value c.if-step-eq0.true c.turn_giants.ensures
+pub returns-in-None : goal.returns-in-None
+returns-in-None c = turned_own c.requires.turning_asked c.requires.powers_value c.requires.turns_value c.in-None.is c.turn_giants.ensures
 
-pub overflow_shl-bits : goal.overflow_shl-bits
-overflow_shl-bits c = bits_low c.requires.turning_asked c.requires.step_value c.requires.bits_value c.if-step-eq0.false
+pub invariant_of-tree : goal.invariant_of-tree
+invariant_of-tree c =
+    let a = c.requires.turning_asked in
+    let e = c.requires.powers_value in
+    let z = c.in-Some.is in
+    let v = c.width_of-width.ensures in
+    record { slots_range = a.range; width_range = tree_width a e z v; bits_low = tree_bits a e z v; giants_each = tree_giants a e z v; leaves_rise = tree_leaves a e z v }
 
-pub join_pairs-requires : goal.join_pairs-requires
-join_pairs-requires c = record { pairs_asked = pairs_asked c.requires.turning_asked c.requires.step_value c.requires.bits_value c.if-step-eq0.false c.width_of-width.ensures; n_in_bounds = c.requires.turning_asked.log_room }
+pub join_pairs-requires-clause-pairs_asked : goal.join_pairs-requires-clause-pairs_asked
+join_pairs-requires-clause-pairs_asked c = pairs_asked c.requires.turning_asked c.requires.powers_value c.in-Some.is c.width_of-width.ensures _ refl refl refl refl
 
-pub returns : goal.returns
-returns c = turned_pairs c.requires.turning_asked c.requires.step_value c.requires.bits_value c.if-step-eq0.false c.width_of-width.ensures c.join_pairs.ensures
+pub returns-in-Some : goal.returns-in-Some
+returns-in-Some c = turned_pairs c.requires.turning_asked c.requires.powers_value c.in-Some.is c.width_of-width.ensures _ refl refl refl refl c.join_pairs.ensures

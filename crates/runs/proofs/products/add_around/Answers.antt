@@ -8,7 +8,7 @@ pub loop-s-init : goal.loop-s-init
 loop-s-init c = filling_none _ _
 
 pub loop-s-preserved : goal.loop-s-preserved
-loop-s-preserved c = around_more c.requires c.loop-s.invariant c.loop-s-test.true c.least-run.ensures c.multiply_add_into-added.ensures
+loop-s-preserved c = around_more c.requires c.loop-s.invariant c.loop-s-test.true c.min-run.ensures c.multiply_add_into.ensures
 
 pub returns : goal.returns
 returns c = filling_done c.loop-s.invariant (search rules)
