@@ -1,13 +1,16 @@
 -- The pairs of a map as the library's chunks of two words.
 -- Assumes nothing.
 use Rattle.std.specs.List.Sorted.{IsPartitionedBy, IsPartitionPoint}
-use Rattle.std.proofs.Common.{◌≡◌, ℕ, zero, suc, ◌+◌, ◌*◌, ◌<◌, ◌≤◌, List, slice_index_or, [], ◌∷◌, length, take, refl, ap, ◌∙◌, arith, ltb, ltb-true, ltb-false, lt-ltb, true, false, ⊎_elim, eq-or-lt_of_le, length-take-le}
-use Rattle.std.proofs.lemmas.List.{get_or-take}
+use Rattle.std.proofs.Common.{◌≡◌, ℕ, zero, suc, ◌+◌, ◌-◌, ◌*◌, ◌<◌, ◌≤◌, List, slice_index_or, [], ◌∷◌, length, take, drop, refl, sym, ap, ◌∙◌, zero-add, arith, ltb, ltb-true, ltb-false, lt-ltb, true, false, ⊎_elim, eq-or-lt_of_le, length-take-le, take-take}
+use Rattle.std.specs.List.{sum_by}
+use Rattle.std.proofs.lemmas.List.{get_or-take, drop-take}
+use Rattle.std.proofs.lemmas.List.Sums.{sum_by_push, sum_by-take-drop}
 use Rattle.std.specs.Simd.{first_chunks}
 use Rattle.ring.specs.Vectors.{tabulate}
-use Rattle.ring.specs.Laws.Vectors.{length_tabulate, get_or_tabulate, is_tabulate, tabulate_cong}
-use Rattle.diagonals.specs.Maps.{pair_room, offset_at, length_at}
-use Rattle.diagonals.specs.Steps.Reading.{pair_at, Placed}
+use Rattle.ring.specs.Laws.Vectors.{get_or_tabulate, is_tabulate, tabulate_cong, tabulate_snoc}
+use Rattle.diagonals.specs.Maps.{pair_room, offset_at, length_at, pair_at, start_at}
+use Rattle.diagonals.specs.Steps.Reading.{Placed}
+use Rattle.diagonals.specs.Laws.Entries.{entries_length, entry_offset}
 
 -- two words further on
 shifted : (a b : ℕ) (ws : List ℕ) (i : ℕ) → pair_at ws i ≡ pair_at (a ∷ b ∷ ws) (suc i)
@@ -25,29 +28,31 @@ chunks_are (suc n) (suc k) [] h l = absurd (omega arith)
 chunks_are (suc n) (suc k) (a ∷ []) h l = absurd (omega arith)
 chunks_are (suc n) (suc k) (a ∷ b ∷ ws) h l = ap (λ (t : List (List ℕ)). (a ∷ b ∷ []) ∷ t) (chunks_are n k ws (omega arith) (omega arith) ∙ tabulate_cong n (pair_at ws) (λ i. pair_at (a ∷ b ∷ ws) (suc i)) (λ i l. shifted a b ws i))
 
--- the i-th of the first n pairs, as a walk over them reads it
-module _ (pairs : List ℕ) (n : ℕ) {items : List (List ℕ)} (e : items ≡ tabulate n (pair_at pairs)) where
-  pub entries_length : length items ≡ n
-  entries_length = ap length e ∙ length_tabulate n (pair_at pairs)
+-- the lengths of the pairs from the first up to the end add up
+lengths_sum : (pairs : List ℕ) (n : ℕ) → sum_by (λ (p : List ℕ). slice_index_or p 1 0) (tabulate n (pair_at pairs)) ≡ start_at pairs n
+lengths_sum pairs zero = refl
+lengths_sum pairs (suc n) = rw (tabulate_snoc n (pair_at pairs), sum_by_push (λ (p : List ℕ). slice_index_or p 1 0), lengths_sum pairs n) refl
 
-  module _ {i : ℕ} (l : i < length items) where
-    pub entry_low : i < n
-    entry_low = omega (arith, entries_length)
+pub lengths_between : (pairs : List ℕ) (n : ℕ) {items : List (List ℕ)} → items ≡ tabulate n (pair_at pairs) → (first end : ℕ) → first ≤ end → end ≤ n
+    → start_at pairs first + sum_by (λ (p : List ℕ). slice_index_or p 1 0) (take (end - first) (drop first items)) ≡ start_at pairs end
+lengths_between pairs n {items} e first end l h =
+    let lens : List ℕ → ℕ = λ p. slice_index_or p 1 0 in
+    let q : first + (end - first) ≡ end = omega arith in
+    let s = sum_by-take-drop lens (take (first + (end - first)) items) first in
+    let front : take first (take (first + (end - first)) items) ≡ take first items = rw q (take-take first end items l) in
+    rw (drop-take, front, q, up first (omega arith), up end h) at s
+  where
+    entries_before : (m : ℕ) → m ≤ n → take m items ≡ tabulate m (pair_at pairs)
+    entries_before m l =
+        let s : m ≤ length items = omega (arith, entries_length pairs n e) in
+        is_tabulate m (pair_at pairs) [] (take m items) (length-take-le m items s) (λ i h. get_or-take m items i [] h ∙ rw e (get_or_tabulate n (pair_at pairs) i [] (omega arith)))
 
-    entry_is : slice_index_or items i [] ≡ pair_at pairs i
-    entry_is = rw e (get_or_tabulate n (pair_at pairs) i [] entry_low)
+    up : (m : ℕ) → m ≤ n → sum_by (λ (p : List ℕ). slice_index_or p 1 0) (take m items) ≡ start_at pairs m
+    up m k = ap (sum_by (λ (p : List ℕ). slice_index_or p 1 0)) (entries_before m k) ∙ lengths_sum pairs m
 
-    pub entry_offset : slice_index_or (slice_index_or items i []) 0 0 ≡ offset_at pairs i
-    entry_offset = rw entry_is refl
-
-    pub entry_length : slice_index_or (slice_index_or items i []) 1 0 ≡ length_at pairs i
-    entry_length = rw entry_is refl
-
--- the pairs before the m-th
-pub entries_before : (pairs : List ℕ) (n : ℕ) {items : List (List ℕ)} (m : ℕ) → items ≡ tabulate n (pair_at pairs) → m ≤ n → take m items ≡ tabulate m (pair_at pairs)
-entries_before pairs n {items} m e l =
-    let s : m ≤ length items = omega (arith, entries_length pairs n e) in
-    is_tabulate m (pair_at pairs) [] (take m items) (length-take-le m items s) (λ i h. get_or-take m items i [] h ∙ rw e (get_or_tabulate n (pair_at pairs) i [] (omega arith)))
+-- of all from the first on
+pub start_first : (pairs : List ℕ) (index : ℕ) {n : ℕ} → start_at pairs 0 + n ≡ start_at pairs index → n ≡ start_at pairs index
+start_first pairs index e = sym (zero-add _) ∙ e
 
 -- where the library's search finds the pairs parted by k, the first stands that is not below it
 pub point_placed : {pairs : List ℕ} {n k index : ℕ} {items : List (List ℕ)} → items ≡ tabulate n (pair_at pairs) → ((i j : ℕ) → i < j → j < n → offset_at pairs i < offset_at pairs j) → index ≤ n

@@ -22,6 +22,3 @@ module _ {q : ℕ → Bool} {n count k : ℕ} (s : Counting q n count k) where
 
   pub counting_no : k < n → q k ≡ false → Counting q n count (k + 1)
   counting_no l e = record { count_is = s.count_is ∙ sym (ap length (below_no q k e)); room = omega arith }
-
-  pub counting_done : n ≤ k → count ≡ length (below q n)
-  counting_done h = let e : k ≡ n = omega (arith, s.room) in rw (← e) s.count_is

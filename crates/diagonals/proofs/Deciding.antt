@@ -8,7 +8,7 @@ use Rattle.ring.specs.Refusals.{outside, no_period}
 use Rattle.ring.specs.Laws.Refusals.{inside}
 use Rattle.diagonals.specs.declared.setting.Change.{Change}
 use Rattle.diagonals.specs.Maps.{start_at, well_formed}
-use Rattle.diagonals.specs.Steps.Accepting.{SameParts}
+use Rattle.diagonals.specs.Calls.{SameParts}
 use Rattle.diagonals.specs.Steps.Reading.{Divisor}
 use Rattle.diagonals.specs.Steps.Setting.{Changed}
 use Rattle.diagonals.specs.Laws.Maps.{formed_means, count_low, values_inside}

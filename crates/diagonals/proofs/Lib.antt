@@ -2,7 +2,6 @@
 pub mod Chunks
 pub mod Counting
 pub mod Deciding
-pub mod Walking
 pub mod Reversing
 pub mod Zipping
 pub mod Folding

@@ -13,9 +13,8 @@ use Rattle.std.proofs.lemmas.Iterator.Consumers.{YieldsList-at, YieldsList-from_
 use Rattle.std.proofs.lemmas.Iterator.Adapters.{YieldsList-from_rev_slice}
 use Rattle.ring.specs.Vectors.{tabulate}
 use Rattle.ring.specs.Laws.Vectors.{get_or_tabulate}
-use Rattle.diagonals.specs.Maps.{offset_at, length_at}
-use Rattle.diagonals.specs.Steps.Reading.{pair_at}
-use Rattle.diagonals.proofs.Chunks.{entries_length}
+use Rattle.diagonals.specs.Maps.{offset_at, length_at, pair_at}
+use Rattle.diagonals.specs.Laws.Entries.{entries_length}
 
 -- the k-th that is taken is the k-th from the end
 pub record Taken (pairs : List ℕ) (count first k n : ℕ) (entry : List ℕ) : Type 0 where

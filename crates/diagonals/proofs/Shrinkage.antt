@@ -14,8 +14,7 @@ use Rattle.ring.specs.Laws.Vectors.{length_tabulate, tabulate_cong}
 use Rattle.diagonals.specs.Maps.{Diagonal, diagonal_at, offset_at, start_at, view, value_words, pair_room, WellFormed, well_formed}
 use Rattle.diagonals.specs.Products.{cell}
 use Rattle.diagonals.specs.Shrinking.{at_period, shrunk}
-use Rattle.diagonals.specs.Calls.{map_room, RoomJudged}
-use Rattle.diagonals.specs.Steps.Accepting.{SameParts}
+use Rattle.diagonals.specs.Calls.{map_room, RoomJudged, SameParts}
 use Rattle.diagonals.specs.Laws.Calls.{room_of}
 use Rattle.diagonals.specs.Steps.Writing.{spin, Appending, Appended, Common, Shrinking, Words}
 use Rattle.diagonals.specs.Laws.Maps.{length_view, view_more}

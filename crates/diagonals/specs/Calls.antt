@@ -28,6 +28,13 @@ map_refusals slots count pairs values = (outside slots, Slots) ∷ (not (well_fo
 abbrev pub map_refusal : ℕ → ℕ → List ℕ → List ℕ → Option Refusal
 map_refusal slots count pairs values = first_refusal (map_refusals slots count pairs values)
 
+-- the parts of an accepted map are those that the call lent
+pub record SameParts (slots count : ℕ) (pairs values : List ℕ) (slots₁ count₁ : ℕ) (pairs₁ values₁ : List ℕ) : Type 0 where
+  pub slots_is : slots₁ ≡ slots
+  pub count_is : count₁ ≡ count
+  pub pairs_is : pairs₁ ≡ pairs
+  pub values_is : values₁ ≡ values
+
 -- `check_map`, with what an accepted map is
 pub record Judged (slots count : ℕ) (pairs values : List ℕ) (r : Result Unit Refusal) : Type 0 where
   pub answer : r ≡ judged (map_refusal slots count pairs values)

@@ -1,6 +1,7 @@
 -- What is proved of the definitions.
 pub mod Pairs
 pub mod Maps
+pub mod Entries
 pub mod Checking
 pub mod Words
 pub mod Calls

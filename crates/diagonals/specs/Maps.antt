@@ -30,6 +30,9 @@ offset_at pairs i = slice_index pairs (2 * i)
 unfoldable pub length_at : List ℕ → ℕ → ℕ
 length_at pairs i = slice_index pairs (2 * i + 1)
 
+abbrev pub pair_at : List ℕ → ℕ → List ℕ
+pair_at pairs i = offset_at pairs i ∷ length_at pairs i ∷ []
+
 -- the i-th pair put, where there is room for it
 unfoldable pub put_pair : List ℕ → ℕ → ℕ → ℕ → List ℕ
 put_pair pairs i offset len = cond (nat_le (pair_room (suc i)) (length pairs)) (sets pairs (2 * i) (offset ∷ len ∷ [])) pairs

@@ -3,4 +3,3 @@ pub mod Reading
 pub mod Setting
 pub mod Writing
 pub mod Terms
-pub mod Accepting

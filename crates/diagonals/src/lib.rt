@@ -18,7 +18,7 @@ ghost use Rattle.ring.specs.Divisors.{divides};
 ghost use Rattle.diagonals.specs.Steps.Writing.{spin, Appending, Appended};
 ghost use Rattle.diagonals.specs.Steps.Reading.{NoPeriod};
 
-pub use map::check_map;
+pub use map::{Map, check_map};
 pub use pairs::{check_room, has_pairs, length_at, offset_at, pair_words, put_pair};
 pub use reading::{get, indexes, is_empty, new, period, used_values};
 use ring::Refusal;

@@ -1,57 +1,62 @@
 // The map that a call is lent: its test, and an accepted map with what all calls read of one.
-ghost use Rattle.std.specs.Prelude.{◌≡◌, ◌≤◌, false, true, length, Some, MatchResult};
+ghost use Rattle.std.specs.Prelude.{◌≡◌, ◌+◌, ◌≤◌, false, true, Some, MatchResult};
+ghost use Rattle.std.specs.Bool.{then_some};
 ghost use Rattle.ring.specs.Vectors.{tabulate};
 ghost use Rattle.ring.specs.Residues.{residue_of};
-ghost use Rattle.ring.specs.Searches.{every};
 ghost use Rattle.ring.specs.Refusals.{outside};
-ghost use Rattle.diagonals.specs.Maps.{pair_room, start_at, formed_at, well_formed, view};
-ghost use Rattle.diagonals.specs.Calls.{Judged, map_refusal};
-ghost use Rattle.diagonals.specs.Steps.Accepting.{SameParts};
+ghost use Rattle.diagonals.specs.Maps.{pair_at, start_at, well_formed, view};
+ghost use Rattle.diagonals.specs.Calls.{Judged, map_refusal, SameParts};
 ghost use Rattle.diagonals.specs.Products.{stretch};
 
 use crate::pairs;
 use ring::Refusal;
 
-// Whether each of `count` stored diagonals is well formed, with rising offsets. Most lengths are that of
-// the diagonal before, which divides, so the remainder is seldom taken.
-fn is_formed(slots: u32, count: usize, pairs: &[u32], values: &[u64]) -> bool
-    requires le_slots { (1 ≤ slots) × (slots ≤ 65536) }
-    requires count_in_bounds { pair_room count ≤ length pairs.now }
-    ensures { result ≡ every (formed_at slots pairs.now values.now) count }
+// The number of values of `count` stored diagonals; None where a pair is missing, a diagonal is not well formed or offsets
+// don't rise.
+// Most lengths are that of the diagonal before, which divides, so the remainder is seldom taken.
+// Kept: the parts of a map one by one, since this test makes the map.
+fn formed_total(slots: u32, count: usize, pairs: &[u32], values: &[u64]) -> Option<usize>
+    requires { (1 ≤ slots) × (slots ≤ 65536) }
+    ensures { result ≡ then_some (well_formed slots count pairs.now values.now) (start_at pairs.now count) }
 {
+    if !pairs::has_pairs(pairs, count) {
+        return None;
+    }
     let mut total: usize = 0;
     let mut next: u32 = 0;
     let mut last: u32 = 1;
     for &[offset, len] in pairs::first_pairs(pairs, count) {
         if offset < next || slots <= offset {
-            return false;
+            return None;
         }
         if len != last && !crate::is_period(slots, len) {
-            return false;
+            return None;
         }
         next = offset + 1;
         last = len;
         total += len as usize;
     }
-    total <= values.len()
+    (total <= values.len()).then_some(total)
 }
 
-// An accepted map. Its parts are those that the call lent.
+// An accepted map. Its parts are those that the call lent; `total` is the number of its values.
 #[derive(Clone, Copy, Debug)]
-pub(crate) struct Map<'p, 'v> {
-    pub(crate) slots: usize,
-    pub(crate) count: usize,
-    pub(crate) pairs: &'p [u32],
-    pub(crate) values: &'v [u64],
+pub struct Map<'p, 'v> {
+    pub slots: usize,
+    pub count: usize,
+    pub pairs: &'p [u32],
+    pub values: &'v [u64],
+    pub total: usize,
     ghost in_range: { outside slots ≡ false },
     ghost formed: { well_formed slots count pairs.now values.now ≡ true },
+    ghost total_is: { total ≡ start_at pairs.now count },
 }
 
 impl<'p, 'v> Map<'p, 'v> {
-    ghost use Rattle.diagonals.specs.Steps.Reading.{pair_at, Placed};
+    ghost use Rattle.diagonals.specs.Steps.Reading.{Placed};
 
     // Refuses with 1 slots out of range, and with 2 a map that isn't well formed.
-    pub(crate) fn accept(
+    pub fn accept(
         slots: usize,
         count: usize,
         pairs: &'p [u32],
@@ -64,19 +69,21 @@ impl<'p, 'v> Map<'p, 'v> {
         if ring::is_outside(slots) {
             return Err(Refusal::Slots);
         }
-        if !pairs::has_pairs(pairs, count) || !is_formed(slots as u32, count, pairs, values) {
+        let Some(total) = formed_total(slots as u32, count, pairs, values) else {
             return Err(Refusal::NotAMap);
-        }
+        };
         Ok(Map {
             slots,
             count,
             pairs,
             values,
+            total,
         })
     }
 
     // Offset and stored length of each diagonal.
-    pub(crate) fn entries(&self) -> &'p [[u32; 2]]
+    // Kept: `has_top` of a trait is no twin, only a line of the same shape.
+    pub fn entries(&self) -> &'p [[u32; 2]]
         ensures { result.now ≡ tabulate self.now.count (pair_at self.now.pairs.now) }
     {
         pairs::first_pairs(self.pairs, self.count)
@@ -89,16 +96,16 @@ impl<'p, 'v> Map<'p, 'v> {
         self.entries().partition_point(|&[offset, _]| offset < k)
     }
 
-    // Where the values of the diagonal at an index start; of all diagonals, where their values end.
-    pub(crate) fn start_of(&self, index: usize) -> usize
-        requires { index ≤ self.now.count }
-        ensures { result ≡ start_at self.now.pairs.now index }
+    // How many values the diagonals from the `first` up to the `end` have.
+    pub(crate) fn values_between(&self, first: usize, end: usize) -> usize
+        requires order { first ≤ end }
+        requires inside { end ≤ self.now.count }
+        ensures { start_at self.now.pairs.now first + result ≡ start_at self.now.pairs.now end }
     {
-        let mut start = 0;
-        for &[_, len] in &self.entries()[..index] {
-            start += len as usize;
-        }
-        start
+        self.entries()[first..end]
+            .iter()
+            .map(|&[_, len]| len as usize)
+            .sum()
     }
 
     // One period of the diagonal at `index`, a part of values; empty where it is absent.
@@ -111,13 +118,14 @@ impl<'p, 'v> Map<'p, 'v> {
         if place == self.count || pairs::offset_at(self.pairs, place) != k {
             return &values[..0];
         }
-        let start = self.start_of(place);
+        let start = self.values_between(0, place);
         let end = start + pairs::length_at(self.pairs, place) as usize;
         &values[start..end]
     }
 }
 
 // Refuses with 1 slots out of range, and with 2 a lent map that isn't well formed.
+// Kept: C lends a map as slots, a count and two buffers.
 pub fn check_map(slots: usize, count: usize, pairs: &[u32], values: &[u64]) -> Result<(), Refusal>
     ensures { Judged slots count pairs.now values.now result }
 {

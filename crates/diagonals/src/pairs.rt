@@ -1,9 +1,8 @@
 // The pairs of a map, two words each, diagonal offset and stored length. A pair that is not there reads
 // as zeros and is not written.
 ghost use Rattle.std.specs.Prelude.{◌≡◌, ◌≤◌, length, nat_le};
-ghost use Rattle.diagonals.specs.Maps.{pair_room, offset_at, length_at, put_pair};
+ghost use Rattle.diagonals.specs.Maps.{pair_room, offset_at, length_at, pair_at, put_pair};
 ghost use Rattle.ring.specs.Vectors.{tabulate};
-ghost use Rattle.diagonals.specs.Steps.Reading.{pair_at};
 ghost use Rattle.diagonals.specs.Calls.{RoomJudged};
 
 use ring::Refusal;

@@ -18,6 +18,7 @@ pub fn new(slots: usize) -> Result<usize, Refusal>
 }
 
 // Whether no diagonal is stored.
+// Kept: C lends a map as slots, a count and two buffers.
 pub fn is_empty(slots: usize, count: usize, pairs: &[u32], values: &[u64]) -> Result<bool, Refusal>
     ensures { result ≡ answered (map_refusal slots count pairs.now values.now) (length (view count pairs.now values.now) == 0) }
 {
@@ -25,6 +26,7 @@ pub fn is_empty(slots: usize, count: usize, pairs: &[u32], values: &[u64]) -> Re
 }
 
 // The number of values that a map has.
+// Kept: C lends a map as slots, a count and two buffers.
 pub fn used_values(
     slots: usize,
     count: usize,
@@ -33,10 +35,11 @@ pub fn used_values(
 ) -> Result<usize, Refusal>
     ensures { result ≡ answered (map_refusal slots count pairs.now values.now) (length (value_words (view count pairs.now values.now))) }
 {
-    Ok(Map::accept(slots, count, pairs, values)?.start_of(count))
+    Ok(Map::accept(slots, count, pairs, values)?.total)
 }
 
 // One period of the diagonal at `index`, a part of values; empty where it is absent or the map is refused.
+// Kept: C lends a map as slots, a count and two buffers.
 pub fn get<'a>(
     slots: usize,
     count: usize,
@@ -53,6 +56,7 @@ pub fn get<'a>(
 }
 
 // The length of the stored period of the diagonal at `index`; 0 where it is absent.
+// Kept: C lends a map as slots, a count and two buffers.
 pub fn period(
     slots: usize,
     count: usize,
@@ -66,6 +70,7 @@ pub fn period(
 }
 
 // The offsets of the stored diagonals, in front of out.
+// Kept: C lends a map as slots, a count and two buffers.
 pub fn indexes(
     slots: usize,
     count: usize,

@@ -27,17 +27,16 @@ fn change_of(map: &Map, k: u32, len: usize) -> Change
 {
     let index = map.place_of(k);
     let behind = map.place_of(k + 1);
-    let start = map.start_of(index);
-    let from = map.start_of(behind);
-    let end = map.start_of(map.count);
+    let start = map.values_between(0, index);
+    let from = start + map.values_between(index, behind);
     Change {
         index,
         behind,
         start,
         from,
-        end,
+        end: map.total,
         pairs: index + 1 + (map.count - behind),
-        values: start + len + (end - from),
+        values: start + len + (map.total - from),
     }
 }
 

@@ -43,6 +43,7 @@ impl Map<'_, '_> {
 }
 
 // The least common multiple of the diagonals' smallest periods: the period that shrinking stores.
+// Kept: C lends a map as slots, a count and two buffers.
 pub fn shrunk_period(
     slots: usize,
     count: usize,
@@ -55,6 +56,7 @@ pub fn shrunk_period(
 }
 
 // Stores every diagonal at the least common multiple of their smallest periods, into a second map.
+// Kept: C lends a map as slots, a count and two buffers.
 pub fn shrink_period(
     slots: usize,
     count: usize,

@@ -47,7 +47,7 @@ impl Map<'_, '_> {
         requires { Rest self.now.slots self.now.count first self.now.pairs.now self.now.values.now front pairs_out.old values_out.old }
         ensures { Words (transposed self.now.slots (view self.now.count self.now.pairs.now self.now.values.now)) pairs_out.old pairs_out.new values_out.old values_out.new }
     {
-        let mut end = self.start_of(self.count);
+        let mut end = self.total;
         let mut at = front;
         for (n, &[k, len]) in self.entries()[first..].iter().rev().enumerate() {
             let start = end - len as usize;
@@ -83,6 +83,7 @@ impl Map<'_, '_> {
 
 // Transposes the matrix, into a second map: offset k goes to -k mod slots, its period rotated left by
 // (-k) mod slots.
+// Kept: C lends a map as slots, a count and two buffers.
 pub fn transpose(
     slots: usize,
     count: usize,
@@ -94,12 +95,7 @@ pub fn transpose(
     ensures { TransposeWritten slots count pairs.now values.now pairs_out.old pairs_out.new values_out.old values_out.new result }
 {
     let map = Map::accept(slots, count, pairs, values)?;
-    crate::check_room(
-        count,
-        map.start_of(count),
-        pairs_out.len(),
-        values_out.len(),
-    )?;
+    crate::check_room(count, map.total, pairs_out.len(), values_out.len())?;
     map.write_transposed(pairs_out, values_out);
     Ok(count)
 }

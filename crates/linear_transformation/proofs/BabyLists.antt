@@ -6,20 +6,20 @@ use mathlib.Core.Bool.{Bool, true, false, not, cond}
 use Rattle.std.specs.List.{count_by}
 use Rattle.std.proofs.lemmas.List.Sums.{sum_by-cons}
 use mathlib.Core.List.{List, [], ◌∷◌, ◌++◌, map, map-id, append-nil, append_assoc}
-use native.Mathlib.Nat.{zero-mul, mul-one, le-mul_of_pos_right}
+use native.Mathlib.Nat.{zero-mul, mul-one, le-mul_of_pos_right, div-one}
 use native.Mathlib.Decide.{ℕ_discrete}
 use native.Mathlib.Omega.{arith}
 use borrow.Author.Tests.{eq-eqb, ne_eqb, lt-ltb, le-ltb}
 use lib.Dec.{eqb, ltb}
 use lib.IntN.{ℤ, pos, nat_abs}
-use lib.ListN.{length, get_or, set, take, drop, length-set, length-append, length-map, take-append-drop}
+use lib.ListN.{length, get_or, set, take, drop, length-set, length-append, length-map, get_or-map, take-append-drop}
 use lib.Seq.{take_all, split_at, length-take-le}
 use Rattle.ring.specs.Lists.{join, Each, among}
 use Rattle.ring.specs.Vectors.{in_front}
 use Rattle.ring.specs.Searches.{below, only}
 use Rattle.ring.specs.Marks.{marks}
 use Rattle.ring.specs.Refusals.{first_refusal}
-use Rattle.std.specs.Prelude.{None, Some, Result, Ok, Err}
+use Rattle.std.specs.Prelude.{◌≢◌, None, Some, Result, Ok, Err}
 use Rattle.ring.specs.declared.refusal.Refusal.{Refusal}
 use Rattle.ring.specs.declared.refusal.Refusal.TheVariants.{Room}
 use Rattle.ring.specs.Laws.Lists.{join_more, join_append}
@@ -29,13 +29,14 @@ use Rattle.ring.specs.Laws.Refusals.{first_later}
 use Rattle.linear_transformation.specs.declared.rotations.BsgsRotations.{BsgsRotations}
 use Rattle.linear_transformation.specs.declared.rotations.BsgsRotations.TheVariants.{PerRotation, PowersOfTwo}
 use Rattle.linear_transformation.specs.Closures.{closure, pass_rotations, nonzeros}
-use Rattle.linear_transformation.specs.Listed.{no_baby, baby_multiple, multiples_of, baby_refusals, closure_of, baby_step_of}
+use Rattle.linear_transformation.specs.Listed.{no_baby, baby_multiple, multiples_of, baby_refusals, closure_of, baby_step_of, baby_keys_of}
 use Rattle.linear_transformation.specs.Calls.{ListWritten}
-use Rattle.linear_transformation.specs.Steps.Babies.{Babies, BabiesJudged, Marked, Enclosed, Reached, tops_of}
+use Rattle.linear_transformation.specs.Steps.Babies.{Babies, BabiesAccepted, Marked, Enclosed, Reached}
 use Rattle.linear_transformation.specs.Laws.Passes.{rotations_are}
 use Rattle.linear_transformation.specs.Laws.Tables.{bounded_below}
-use Rattle.linear_transformation.proofs.Judgings.{none_of, some_of, still_refused}
-use Rattle.linear_transformation.proofs.BabyTables.{times, baby_is}
+use Rattle.linear_transformation.proofs.Judgings.{still_refused}
+use Rattle.linear_transformation.proofs.BabyTables.{times, read, word_at}
+use Rattle.linear_transformation.specs.Steps.Tables.{tops_of}
 
 -- ---- words of the elements of a list, one after the other
 
@@ -117,16 +118,10 @@ list_later_by cs z {result} {old} w =
     let q = first_later cs ((ltb (length old) (length result), Room) ∷ []) z in
     record { answer = rw q w.answer; words = rw q w.words }
 
-pub list_later : {rotations : BsgsRotations} {bs : List ℤ} {e : Result Unit Refusal} {result old new : List ℕ} {r : Result ℕ Refusal} → BabiesJudged rotations bs e → e ≡ Ok tt → ListWritten [] result old new r → ListWritten (baby_refusals rotations bs) result old new r
-list_later {rotations} {bs} j z w = list_later_by (baby_refusals rotations bs) (none_of j.answer z) w
-
 pub list_refused_by : (cs : List (Bool × Refusal)) (result old : List ℕ) {x : Refusal} → first_refusal cs ≡ Some x → ListWritten cs result old old (Err x)
 list_refused_by cs result old e =
     let q = still_refused cs ((ltb (length old) (length result), Room) ∷ []) e in
     record { answer = rw q; words = rw q }
-
-pub list_refused : {rotations : BsgsRotations} {bs : List ℤ} {r : Result Unit Refusal} {x : Refusal} (result old : List ℕ) → BabiesJudged rotations bs r → r ≡ Err x → ListWritten (baby_refusals rotations bs) result old old (Err x)
-list_refused {rotations} {bs} result old j n = list_refused_by (baby_refusals rotations bs) result old (some_of j.answer n)
 
 pub list_short : (result old : List ℕ) {count : ℕ} → count ≡ length result → length old < count → ListWritten [] result old old (Err Room)
 list_short result old e l =
@@ -140,15 +135,17 @@ list_written result old e l h =
 
 -- ---- what `baby_closure` marks
 
-pub reached_one : {bs : List ℤ} {seen : List Bool} {n : ℕ} → Marked 1 bs seen n → Reached PerRotation bs seen n
-reached_one {bs} {seen} {n} m =
+pub reached_one : {step : ℕ} {bs : List ℤ} {seen : List Bool} {n : ℕ} → step ≡ 1 → Marked step bs seen n → Reached PerRotation bs seen n
+reached_one {step} {bs} {seen} {n} e m =
+    let own : Marked 1 bs seen n = rw e at m in
     record {
-      bounded = m.bounded;
-      is = simp (mul-one, map-id) (bounded_below m.bounded ∙ below_ext (marks seen) (λ k. among k (multiples_of 1 bs)) 65536 (λ k l. m.marked k));
+      bounded = own.bounded;
+      is = simp (mul-one, map-id) (bounded_below own.bounded ∙ below_ext (marks seen) (λ k. among k (multiples_of 1 bs)) 65536 (λ k l. own.marked k));
     }
 
-pub reached_powers : {baby_step giant_step slots : ℕ} {bs : List ℤ} {seen : List Bool} {n : ℕ} → Enclosed baby_step bs seen n → Reached (PowersOfTwo baby_step giant_step slots) bs seen n
-reached_powers {baby_step} e = record { bounded = e.bounded; is = ap (map (λ k. k * baby_step)) e.is }
+pub reached_each : {step : ℕ} {bs : List ℤ} {seen : List Bool} {n : ℕ} (rotations : BsgsRotations) → ((b g m : ℕ) → rotations ≢ PowersOfTwo b g m) → step ≡ baby_step_of rotations → Marked step bs seen n → Reached rotations bs seen n
+reached_each PerRotation h e m = reached_one e m
+reached_each (PowersOfTwo b g m) h e k = absurd (h b g m refl)
 
 -- ---- the loops over babies
 
@@ -165,30 +162,21 @@ nonzeros_counted (z ∷ zs) =
     one false = refl
 
 -- the nonzero babies before t stand in front
-module _ {bs : List ℤ} {out₀ out : List ℕ} {at t a : ℕ} (b : Babies 1 bs) (s : Sieving nonzero [] (multiples_of 1 bs) out₀ out at t) (l : t < length bs) (e : a ≡ nat_abs (get_or bs t (pos 0))) where
-  own : get_or (multiples_of 1 bs) t 0 ≡ a
-  own = sym (e ∙ baby_is b t l ∙ mul-one (get_or (multiples_of 1 bs) t 0))
+module _ {step : ℕ} {bs : List ℤ} {out₀ out : List ℕ} {at t : ℕ} (b : Babies step bs) (s : Sieving nonzero [] (map nat_abs bs) out₀ out at t) (l : t < length bs) where
+  own : get_or (map nat_abs bs) t 0 ≡ read bs t
+  own = get_or-map nat_abs bs t (pos 0) ∙ sym (word_at b t l)
 
-  within : t < length (multiples_of 1 bs)
+  within : t < length (map nat_abs bs)
   within = rw length-map l
 
-  pub keys_room : length (nonzeros (multiples_of 1 bs)) ≤ length out₀ → (a ≡ 0 → ⊥) → at < length out
-  keys_room h n = omega (arith, sieving_room s within h, ap (λ (x : ℕ). length (nonzero x)) own, ap length (nonzero_yes a n))
+  pub keys_room : length (nonzeros (map nat_abs bs)) ≤ length out₀ → (read bs t ≡ 0 → ⊥) → at < length out
+  keys_room h n = omega (arith, sieving_room s within h, ap (λ (x : ℕ). length (nonzero x)) own, ap length (nonzero_yes (read bs t) n))
 
-  pub keys_yes : length (nonzeros (multiples_of 1 bs)) ≤ length out₀ → (a ≡ 0 → ⊥) → Sieving nonzero [] (multiples_of 1 bs) out₀ (set out at a) (at + 1) (t + 1)
-  keys_yes h n = sieving_one s within (rw own (nonzero_yes a n)) (keys_room h n)
+  pub keys_yes : length (nonzeros (map nat_abs bs)) ≤ length out₀ → (read bs t ≡ 0 → ⊥) → Sieving nonzero [] (map nat_abs bs) out₀ (set out at (read bs t)) (at + 1) (t + 1)
+  keys_yes h n = sieving_one s within (rw own (nonzero_yes (read bs t) n)) (keys_room h n)
 
-  pub keys_no : a ≡ 0 → Sieving nonzero [] (multiples_of 1 bs) out₀ out at (t + 1)
-  keys_no z = sieving_skip s within (rw own (nonzero_no a z))
-
-pub keys_done : (bs : List ℤ) {out₀ out : List ℕ} {at t : ℕ} → Sieving nonzero [] (multiples_of 1 bs) out₀ out at t → length bs ≤ t → out ≡ in_front (nonzeros (multiples_of 1 bs)) out₀
-keys_done bs s h = sieving_done s (rw length-map h)
-
-pub babies_one : {rotations : BsgsRotations} {bs : List ℤ} → rotations ≡ PerRotation → Babies (baby_step_of rotations) bs → Babies 1 bs
-babies_one e b = rw e at b
-
-pub babies_powers : {rotations : BsgsRotations} {baby_step giant_step slots : ℕ} {bs : List ℤ} → rotations ≡ PowersOfTwo baby_step giant_step slots → Babies (baby_step_of rotations) bs → Babies baby_step bs
-babies_powers e b = rw e at b
+  pub keys_no : read bs t ≡ 0 → Sieving nonzero [] (map nat_abs bs) out₀ out at (t + 1)
+  keys_no z = sieving_skip s within (rw own (nonzero_no (read bs t) z))
 
 -- as many babies as multiples are not 0
 pub nonzeros_same : {step : ℕ} {bs : List ℤ} → Babies step bs → length (nonzeros (map nat_abs bs)) ≡ length (nonzeros (multiples_of step bs))
@@ -212,47 +200,40 @@ nonzeros_same {step} {bs} b = by bs b.each
 
 -- ---- the answer of `baby_closure`
 
-module _ {rotations : BsgsRotations} {bs : List ℤ} {e : Result Unit Refusal} (j : BabiesJudged rotations bs e) (z : e ≡ Ok tt) {seen : List Bool} {n : ℕ} (r : Reached rotations bs seen n) {count : ℕ} (k : count ≡ length (below (marks seen) n)) (old : List ℕ) where
+module _ {rotations : BsgsRotations} {bs bs₁ : List ℤ} {step : ℕ} (j : BabiesAccepted rotations bs step bs₁) {step₁ : ℕ} {seen : List Bool} {n : ℕ} (r : (step₁ ≡ step) × Reached rotations bs₁ seen n) {count : ℕ} (k : count ≡ length (below (marks seen) n)) (old : List ℕ) where
+  listed : map (λ k. k * step₁) (below (marks seen) n) ≡ closure_of rotations bs
+  listed = ap (λ s. map (λ k. k * s) (below (marks seen) n)) (r.0 ∙ j.step_is) ∙ r.1.is ∙ ap (closure_of rotations) j.babies_are
+
   counted : count ≡ length (closure_of rotations bs)
-  counted = k ∙ sym (sym (ap length r.is) ∙ length-map (below (marks seen) n) (λ k. k * baby_step_of rotations))
+  counted = k ∙ sym (sym (ap length listed) ∙ length-map (below (marks seen) n) (λ k. k * step₁))
 
-  pub closure_short : length old < count → ListWritten (baby_refusals rotations bs) (closure_of rotations bs) old old (Err Room)
-  closure_short h = list_later j z (list_short (closure_of rotations bs) old counted h)
-
-  pub closure_written : {step : ℕ} {new : List ℕ} → count ≤ length old → step ≡ baby_step_of rotations → new ≡ in_front (map (λ k. k * step) (below (marks seen) n)) old → ListWritten (baby_refusals rotations bs) (closure_of rotations bs) old new (Ok count)
-  closure_written {new} h s w =
-      let q : new ≡ in_front (map (λ k. k * baby_step_of rotations) (below (marks seen) n)) old = rw (← s) w in
-      list_later j z (list_written (closure_of rotations bs) old counted h (q ∙ ap (λ (x : List ℕ). in_front x old) r.is))
+  pub closure_written : {new : List ℕ} → count ≤ length old → new ≡ in_front (map (λ k. k * step₁) (below (marks seen) n)) old → ListWritten (baby_refusals rotations bs) (closure_of rotations bs) old new (Ok count)
+  closure_written h w = list_later_by (baby_refusals rotations bs) j.none (list_written (closure_of rotations bs) old counted h (w ∙ ap (λ (x : List ℕ). in_front x old) listed))
 
 -- ---- the keys of a closure
 
-module _ {step : ℕ} {bs : List ℤ} {seen : List Bool} {n : ℕ} (r : Enclosed step bs seen n) {count : ℕ} (k : count ≡ length (tops_of (below (marks seen) n) 16)) (old : List ℕ) where
+module _ {step step₁ : ℕ} {bs : List ℤ} {seen : List Bool} {n : ℕ} (r : (step₁ ≡ step) × Enclosed step bs seen n) {count : ℕ} (k : count ≡ length (tops_of (below (marks seen) n) 16)) (old : List ℕ) where
   abbrev rotated : List ℕ
   rotated = pass_rotations 16 step (closure 16 (multiples_of step bs))
 
-  turned : pass_rotations 16 step (below (marks seen) n) ≡ rotated
-  turned = ap (pass_rotations 16 step) r.is
+  turned : pass_rotations 16 step₁ (below (marks seen) n) ≡ rotated
+  turned = ap₂ (pass_rotations 16) r.0 r.1.is
 
   tops_counted : count ≡ length rotated
-  tops_counted = k ∙ sym (sym (ap length turned) ∙ ap length (rotations_are step (below (marks seen) n) 16) ∙ length-map (tops_of (below (marks seen) n) 16) (λ i. 2 ^ i * step))
+  tops_counted = k ∙ sym (sym (ap length turned) ∙ ap length (rotations_are step₁ (below (marks seen) n) 16) ∙ length-map (tops_of (below (marks seen) n) 16) (λ i. 2 ^ i * step₁))
 
   pub tops_short : length old < count → ListWritten [] rotated old old (Err Room)
   tops_short h = list_short rotated old tops_counted h
 
-  pub tops_written : {new : List ℕ} → count ≤ length old → new ≡ in_front (pass_rotations 16 step (below (marks seen) n)) old → ListWritten [] rotated old new (Ok count)
+  pub tops_written : {new : List ℕ} → count ≤ length old → new ≡ in_front (pass_rotations 16 step₁ (below (marks seen) n)) old → ListWritten [] rotated old new (Ok count)
   tops_written h w = list_written rotated old tops_counted h (w ∙ ap (λ (x : List ℕ). in_front x old) turned)
 
--- ---- the keys per rotation
+-- ---- the answer of `baby_key_rotations`
 
-module _ {bs : List ℤ} (b : Babies 1 bs) {count : ℕ} (k : count ≡ length (nonzeros (map nat_abs bs))) (old : List ℕ) where
-  keys_counted : count ≡ length (nonzeros (multiples_of 1 bs))
-  keys_counted = k ∙ nonzeros_same b
+ones : (bs : List ℤ) → map nat_abs bs ≡ multiples_of 1 bs
+ones [] = refl
+ones (z ∷ zs) = ap₂ ◌∷◌ (sym (div-one (nat_abs z))) (ones zs)
 
-  pub keys_asked : count ≤ length old → length (nonzeros (multiples_of 1 bs)) ≤ length old
-  keys_asked h = omega (arith, keys_counted)
-
-  pub keys_short : length old < count → ListWritten [] (nonzeros (multiples_of 1 bs)) old old (Err Room)
-  keys_short h = list_short (nonzeros (multiples_of 1 bs)) old keys_counted h
-
-  pub keys_written : {new : List ℕ} → count ≤ length old → new ≡ in_front (nonzeros (multiples_of 1 bs)) old → ListWritten [] (nonzeros (multiples_of 1 bs)) old new (Ok count)
-  keys_written h w = list_written (nonzeros (multiples_of 1 bs)) old keys_counted h w
+module _ {rotations : BsgsRotations} {bs bs₁ : List ℤ} {step : ℕ} {old new : List ℕ} {r : Result ℕ Refusal} (j : BabiesAccepted rotations bs step bs₁) where
+  later : ListWritten [] (baby_keys_of rotations bs) old new r → ListWritten (baby_refusals rotations bs) (baby_keys_of rotations bs) old new r
+  later w = list_later_by (baby_refusals rotations bs) j.none w

@@ -1,7 +1,7 @@
 -- The tables of the babies' multiples: what each loop keeps, a turn, and the end.
 -- Assumes nothing.
-use Prim.Native.Nat.{ℕ, suc, ◌+◌, ◌-◌, ◌*◌, ◌/◌, ◌%◌, ◌^◌, ◌≤◌, ◌<◌, min, max}
-use mathlib.Core.Path.{◌≡◌, refl, sym, ap, ◌∙◌}
+use Prim.Native.Nat.{ℕ, zero, suc, ◌+◌, ◌-◌, ◌*◌, ◌/◌, ◌%◌, ◌^◌, ◌≤◌, ◌<◌, min, max}
+use mathlib.Core.Path.{◌≡◌, refl, sym, ap, subst, ◌∙◌}
 use mathlib.Core.Bool.{Bool, true, false, not, ◌||◌, true≢false, or-true, or-false}
 use mathlib.Core.Logic.{◌⊎◌, inl, inr, ⊎_elim}
 use mathlib.Core.List.{List, [], ◌∷◌, map, map-append}
@@ -16,6 +16,7 @@ use lib.IntN.{ℤ, pos, negsuc, nat_abs}
 use lib.Signed.{lt_z}
 use mir.Syntax.{w64}
 use mir.Val.{of_z, to_z}
+use Rattle.std.specs.List.{list_any, range_with_len}
 use Rattle.std.specs.Ordering.{ord_max, nat_cmp}
 use lib.ListN.{length, get_or, set, take, length-set, length-map, get_or-map}
 use lib.Seq.{get_or-set_same, get_or-set_other, take-suc, take_all}
@@ -32,15 +33,15 @@ use Rattle.ring.specs.Laws.Refusals.{either}
 use Rattle.ring.specs.Refusals.{Range}
 use Rattle.linear_transformation.specs.Closures.{top_bit, cleared, targets, pass_rotations, non_empty}
 use Rattle.linear_transformation.specs.Listed.{no_baby, baby_multiple, multiples_of}
-use Rattle.linear_transformation.specs.Steps.Plans.{Writing}
 use Rattle.linear_transformation.proofs.Writings.{writing_front}
 use Rattle.linear_transformation.proofs.BabyChecks.{word_is}
 use Rattle.linear_transformation.proofs.Signs.{max_is}
-use Rattle.linear_transformation.specs.Steps.Babies.{Babies, Small, Bounded, Folded, Clears, Closes, Marked, Enclosed, tops_of}
-use Rattle.ring.specs.Laws.Members.{some_append, among_head, among_below, below_among}
+use Rattle.linear_transformation.specs.Steps.Babies.{Babies, Small, Folded, Clears, Closes, Marked, Enclosed}
+use Rattle.ring.specs.Laws.Members.{some_append, one_of, left, right, among_head, among_below, below_among}
 use Rattle.linear_transformation.specs.Laws.Closures.{top_unique, top_low, top_high, positive}
 use Rattle.linear_transformation.specs.Laws.Passes.{target_is, is_target, rotations_are}
-use Rattle.linear_transformation.specs.Laws.Tables.{closes_below}
+use Rattle.linear_transformation.specs.Laws.Tables.{agree, closes_below}
+use Rattle.linear_transformation.specs.Steps.Tables.{Writing, Bounded, tops_of}
 
 -- ---- one baby
 
@@ -64,6 +65,10 @@ abs_low : (z : ℤ) → Small z → nat_abs z ≤ 65535
 abs_low (pos n) s = ltb-false 65535 n s.high
 abs_low (negsuc n) s = absurd (true≢false s.low)
 
+-- the baby at t, as the code reads it
+abbrev pub read : List ℤ → ℕ → ℕ
+read bs t = nat_abs (to_z w64 (of_z w64 (get_or bs t (pos 0))))
+
 module _ {step : ℕ} {bs : List ℤ} (b : Babies step bs) where
   pub multiples_low : Each (λ k. k < 65536) (multiples_of step bs)
   multiples_low =
@@ -77,8 +82,7 @@ module _ {step : ℕ} {bs : List ℤ} (b : Babies step bs) where
     pub small_at : Small (get_or bs t (pos 0))
     small_at = small_of (get_or bs t (pos 0)) step here
 
-    -- as the code reads it
-    pub word_at : nat_abs (to_z w64 (of_z w64 (get_or bs t (pos 0)))) ≡ nat_abs (get_or bs t (pos 0))
+    pub word_at : read bs t ≡ nat_abs (get_or bs t (pos 0))
     word_at = word_is (get_or bs t (pos 0)) small_at
 
     pub baby_low : nat_abs (get_or bs t (pos 0)) ≤ 65535
@@ -137,8 +141,8 @@ pub marking_none : (step : ℕ) (bs : List ℤ) {seen : List Bool} → Unmarked 
 marking_none step bs u =
     record { bounded = record { size = u.size; room = omega arith; above = λ k l. u.none k }; inside = omega arith; so_far = u.none }
 
-pub marking_more : {step : ℕ} {bs : List ℤ} {seen : List Bool} {n t a r : ℕ} → Marking step bs seen n t → Babies step bs → t < length bs → a ≡ nat_abs (get_or bs t (pos 0)) → r ≡ ord_max nat_cmp n (a / step + 1) → Marking step bs (set seen (a / step) true) r (t + 1)
-marking_more {step} {bs} {seen} {n} {t} {a} {r} s b l e v =
+pub marking_more : {step : ℕ} {bs : List ℤ} {seen : List Bool} {n t r : ℕ} → Marking step bs seen n t → Babies step bs → t < length bs → r ≡ ord_max nat_cmp n (read bs t / step + 1) → Marking step bs (set seen (read bs t / step) true) r (t + 1)
+marking_more {step} {bs} {seen} {n} {t} {r} s b l v =
     record {
       bounded = record { size = simp length-set s.bounded.size; room = omega (arith, bound, fits, s.bounded.room, s.bounded.size); above = out };
       inside = omega arith;
@@ -148,11 +152,14 @@ marking_more {step} {bs} {seen} {n} {t} {a} {r} s b l e v =
           (sym (some_append (λ x. eqb x k) (take t (multiples_of step bs)) (get_or (multiples_of step bs) t 0 ∷ [])));
     }
   where
+    a : ℕ
+    a = read bs t
+
     bound : r ≡ max n (a / step + 1)
     bound = v ∙ max_is n (a / step + 1)
 
     own : a / step ≡ get_or (multiples_of step bs) t 0
-    own = ap (λ (x : ℕ). x / step) e ∙ sym (multiple_at b t l)
+    own = ap (λ (x : ℕ). x / step) (word_at b t l) ∙ sym (multiple_at b t l)
 
     fits : a / step < length seen
     fits = omega (arith, own, multiple_low b t l, s.bounded.size)
@@ -214,20 +221,6 @@ module _ {p n : ℕ} {old new : List Bool} {k : ℕ} (s : Folding p n old new k)
           let q : j + p ≡ k = omega (arith, s.behind) in
           (omega (arith, s.behind), (omega (arith, s.behind, l), rw q (was h)))
 
-  pub folding_no : marks new k ≡ false → Folding p n old new (k + 1)
-  folding_no h =
-      record {
-        bounded = s.bounded;
-        behind = omega (arith, s.behind);
-        grows = s.grows;
-        moved = λ j a c b q. move j a c b q (ℕ_discrete j k);
-        origin = s.origin;
-      }
-    where
-      move : (j : ℕ) → p < j → j < 2 * p → j < k + 1 → marks old j ≡ true → Dec (j ≡ k) → marks new (j - p) ≡ true
-      move j a c b q (yes e) = let y : marks new k ≡ true = rw (← e) (s.grows j q) in absurd (true≢false (sym y ∙ h))
-      move j a c b q (no d) = s.moved j a c (omega arith) q
-
 pub folding_done : {p n end : ℕ} {old new : List Bool} {k : ℕ} → Folding p n old new k → Bounded old n → end ≡ min (2 * p) n → end ≤ k → Folded p n old new
 folding_done {p} {n} {end} {k} s b e h =
     record {
@@ -247,16 +240,6 @@ pub record Closing (n : ℕ) (old new : List Bool) (j : ℕ) : Type 0 where
   pub clears : (k : ℕ) → 2 ^ j ≤ k → marks new k ≡ true → 1 ≤ cleared k → marks new (cleared k) ≡ true
   pub least : (q : ℕ → Bool) → Clears q → ((k : ℕ) → marks old k ≡ true → q k ≡ true) → (k : ℕ) → marks new k ≡ true → q k ≡ true
 
-pub closing_none : {n : ℕ} {seen : List Bool} → Bounded seen n → Closing n seen seen 16
-closing_none b =
-    record {
-      bounded = b;
-      low = omega arith;
-      grows = λ k h. h;
-      clears = λ k l h. absurd (true≢false (sym h ∙ b.above k (omega (arith, b.room))));
-      least = λ q c i k h. i k h;
-    }
-
 -- clearing the top bit of a number of at least 2^j and below 2^(j+1) takes 2^j away
 clears_at : (k j p : ℕ) → p ≡ 2 ^ j → p ≤ k → k < 2 * p → cleared k ≡ k - p
 unfolding cleared
@@ -269,9 +252,6 @@ module _ {n : ℕ} {old mid : List Bool} {j : ℕ} (s : Closing n old mid j) (l 
 
   twice : 2 ^ j ≡ 2 * half
   twice = let e : j ≡ suc (j - 1) = omega arith in ap (λ (x : ℕ). 2 ^ x) e ∙ omega arith
-
-  pub half_low : {p : ℕ} → p ≡ half → p ≤ 32768
-  half_low q = omega (arith, q, pow_mono {i = j - 1} {j = 15} (omega (arith, s.low)))
 
   pub closing_more : {p : ℕ} {new : List Bool} → p ≡ half → Folded p n mid new → Closing n old new (j - 1)
   closing_more {p} {new} q g =
@@ -349,53 +329,54 @@ module _ {q : ℕ → Bool} {f : ℕ → ℕ} {n : ℕ} {out₀ out : List ℕ} 
 
 -- ---- top bits
 
--- the table's numbers from p up to k are not marked
-pub record Looking (seen : List Bool) (p k : ℕ) : Type 0 where
-  pub behind : p ≤ k
-  pub so_far : (j : ℕ) → p ≤ j → j < k → marks seen j ≡ false
+-- a number of a range that passes
+any_here : (q : ℕ → Bool) (n a k : ℕ) → a ≤ k → k < a + n → q k ≡ true → list_any q (range_with_len a n) ≡ true
+any_here q zero a k l m h = absurd (omega arith)
+any_here q (suc n) a k l m h = by (λ l m. any_here q n (a + 1) k l m h) (ℕ_discrete a k)
+  where
+    by : (a + 1 ≤ k → k < a + 1 + n → list_any q (range_with_len (a + 1) n) ≡ true) → Dec (a ≡ k) → (q a || list_any q (range_with_len (a + 1) n)) ≡ true
+    by rest (yes e) = left (list_any q (range_with_len (a + 1) n)) (rw e h)
+    by rest (no d) = right (q a) (rest (omega arith) (omega arith))
 
-pub looking_none : (seen : List Bool) (p : ℕ) → Looking seen p p
-looking_none seen p = record { behind = omega arith; so_far = λ j a b. absurd (omega arith) }
+any_where : (q : ℕ → Bool) (n a : ℕ) → list_any q (range_with_len a n) ≡ true → (k : ℕ) × (a ≤ k) × (k < a + n) × (q k ≡ true)
+any_where q zero a h = absurd (true≢false (sym h))
+any_where q (suc n) a h =
+    ⊎_elim (λ e. (a, omega arith, omega arith, e)) (λ e. let w = any_where q n (a + 1) e in (w.0, omega (arith, w.1), omega (arith, w.2), w.3)) (one_of (q a) (list_any q (range_with_len (a + 1) n)) h)
 
 non_empty_yes : (k : ℕ) (xs : List ℕ) → among k xs ≡ true → non_empty xs ≡ true
 non_empty_yes k [] h = h
 non_empty_yes k (x ∷ xs) h = refl
 
-non_empty_no : (xs : List ℕ) → ((k : ℕ) → among k xs ≡ true → ⊥) → non_empty xs ≡ false
-non_empty_no [] h = refl
-non_empty_no (x ∷ xs) h = absurd (h x (among_head x xs))
+non_empty_where : (xs : List ℕ) → non_empty xs ≡ true → (k : ℕ) × (among k xs ≡ true)
+non_empty_where [] h = absurd (true≢false (sym h))
+non_empty_where (x ∷ xs) h = (x, among_head x xs)
 
-module _ {seen : List Bool} {p k : ℕ} (s : Looking seen p k) where
-  pub looking_more : marks seen k ≡ false → Looking seen p (k + 1)
-  looking_more e =
-      record { behind = omega (arith, s.behind); so_far = λ j a b. by j a b (ℕ_discrete j k) }
-    where
-      by : (j : ℕ) → p ≤ j → j < k + 1 → Dec (j ≡ k) → marks seen j ≡ false
-      by j a b (yes q) = rw q e
-      by j a b (no d) = s.so_far j a (omega arith)
-
-  module _ (n i end : ℕ) (e : end ≡ min (2 * p) n) (q : p ≡ 2 ^ i) where
-    pub looking_found : k < end → marks seen k ≡ true → true ≡ non_empty (targets (below (marks seen) n) i)
-    looking_found l h =
-        let t : top_bit k ≡ i = top_unique k i (omega (arith, s.behind)) (omega (arith, min-le_left (2 * p) n)) in
-        sym (non_empty_yes k (targets (below (marks seen) n) i)
-        (is_target (below (marks seen) n) i k
+-- some number from p up to 2p is marked exactly if p = 2^i is the top bit of a marked number below n
+pub tops_marked : (seen : List Bool) (n i : ℕ) {p end : ℕ} → p ≡ 2 ^ i → end ≡ min (2 * p) n → list_any (marks seen) (range_with_len p (end - p)) ≡ non_empty (targets (below (marks seen) n) i)
+tops_marked seen n i {p} {end} q e = agree yes_so so_yes
+  where
+    yes_so : list_any (marks seen) (range_with_len p (end - p)) ≡ true → non_empty (targets (below (marks seen) n) i) ≡ true
+    yes_so h =
+        let w = any_where (marks seen) (end - p) p h in
+        let l : w.0 < end = omega (arith, w.1, w.2) in
+        let t : top_bit w.0 ≡ i = top_unique w.0 i (omega (arith, w.1)) (omega (arith, min-le_left (2 * p) n)) in
+        non_empty_yes w.0 (targets (below (marks seen) n) i)
+        (is_target (below (marks seen) n) i w.0
         (record {
-          among_cached = among_below k (marks seen) n (omega (arith, min-le_right (2 * p) n)) h;
-          nonzero = omega (arith, s.behind, pow_pos i);
+          among_cached = among_below w.0 (marks seen) n (omega (arith, min-le_right (2 * p) n)) w.3;
+          nonzero = omega (arith, w.1, pow_pos i);
           topped = t;
-        })))
+        }))
 
-    pub looking_done : end ≤ k → false ≡ non_empty (targets (below (marks seen) n) i)
-    looking_done l =
-        sym (non_empty_no (targets (below (marks seen) n) i)
-        (λ j a.
-        let t = target_is (below (marks seen) n) i j a in
-        let b = below_among j (marks seen) n t.among_cached in
-        let x : top_bit j ≡ i = t.topped in
-        let y : 2 ^ i ≤ j = rw (← x) (top_low j t.nonzero) in
-        let z : j < 2 ^ suc i = rw (← x) (top_high j t.nonzero) in
-        true≢false (sym b.1 ∙ s.so_far j (omega arith) (omega (arith, le-min {k = suc j} {a = 2 * p} {b = n} (omega arith) b.0)))))
+    so_yes : non_empty (targets (below (marks seen) n) i) ≡ true → list_any (marks seen) (range_with_len p (end - p)) ≡ true
+    so_yes h =
+        let w = non_empty_where (targets (below (marks seen) n) i) h in
+        let t = target_is (below (marks seen) n) i w.0 w.1 in
+        let b = below_among w.0 (marks seen) n t.among_cached in
+        let x : top_bit w.0 ≡ i = t.topped in
+        let y : 2 ^ i ≤ w.0 = subst (λ a. 2 ^ a ≤ w.0) x (top_low w.0 t.nonzero) in
+        let z : w.0 < 2 ^ suc i = subst (λ a. w.0 < 2 ^ suc a) x (top_high w.0 t.nonzero) in
+        any_here (marks seen) (end - p) p w.0 (omega arith) (omega (arith, le-min {k = suc w.0} {a = 2 * p} {b = n} (omega arith) b.0)) b.1
 
 -- ---- the powers of two, one after the other
 

@@ -3,7 +3,7 @@
 use Prim.Native.Nat.{ℕ, ◌*◌, ◌≤◌, ◌<◌}
 use mathlib.Core.Path.{◌≡◌, refl, sym, ap, ◌∙◌}
 use mathlib.Core.Bool.{Bool, false}
-use mathlib.Core.List.{List, [], ◌∷◌, ◌++◌, map, map-map}
+use mathlib.Core.List.{List, [], ◌++◌, map, map-map}
 use native.Mathlib.Omega.{arith}
 use borrow.Author.Tests.{lt-ltb, le-ltb}
 use lib.Dec.{ltb}
@@ -12,36 +12,25 @@ use lib.ListN.{length, length-map}
 use Rattle.ring.specs.Lists.{join}
 use Rattle.ring.specs.Vectors.{in_front, Behind}
 use Rattle.ring.specs.Answers.{answered}
-use Rattle.std.specs.Prelude.{Option, None, Some, Result, Ok, Err}
+use Rattle.std.specs.Prelude.{Option, None, Some, Ok, Err}
 use Rattle.ring.specs.declared.refusal.Refusal.{Refusal}
 use Rattle.ring.specs.declared.refusal.Refusal.TheVariants.{Room}
 use Rattle.ring.specs.Refusals.{first_refusal}
-use Rattle.ring.specs.Laws.Answers.{when_ok, when_refused}
 use Rattle.ring.specs.Laws.Refusals.{first_later}
 use Rattle.linear_transformation.specs.declared.rotations.BsgsRotations.TheVariants.{PowersOfTwo}
-use Rattle.linear_transformation.specs.declared.rotations.TreeSizes.{TreeSizes}
 use Rattle.linear_transformation.specs.declared.records.PairRecord.{PairRecord}
 use Rattle.linear_transformation.specs.declared.digits.Digit.{Digit}
+use Rattle.linear_transformation.specs.declared.tree.Tree.{Tree as HeapTree}
 use Rattle.linear_transformation.specs.Digits.{rot_of, digit, bits_of, leaf}
 use Rattle.linear_transformation.specs.Trees.{digits_of, leaves_of, Level, levels_of, Tree, tree_of, level_words, tree_records, tree_keys, tree_switches}
 use Rattle.linear_transformation.specs.Listed.{giant_refusals, list_tree}
-use Rattle.linear_transformation.specs.Calls.{ListWritten, tree_sizes, tree_room, TreeWritten}
+use Rattle.linear_transformation.specs.Calls.{ListWritten, tree_room, TreeWritten}
 use Rattle.linear_transformation.specs.Stored.{RecordsLeft}
-use Rattle.linear_transformation.specs.Steps.Trees.{GiantsJudged, leaves_at, Planted, heap_levels, heap_switches, keys_of}
-use Rattle.linear_transformation.specs.Steps.Records.{heap_records, WriteAsked, Stands, Grown, grow_refusal, ListGrown}
-use Rattle.linear_transformation.proofs.Judgings.{none_of, some_of, still_refused}
-use Rattle.linear_transformation.proofs.BabyLists.{list_refused_by}
+use Rattle.linear_transformation.specs.Steps.Trees.{GiantsAccepted, leaves_at, Planted, TreeOf, heap_levels, heap_switches, levels_in, switches_in, keys_of}
+use Rattle.linear_transformation.specs.Steps.Records.{heap_records, records_in}
+use Rattle.linear_transformation.proofs.BabyLists.{list_later_by, list_short, list_written}
 use Rattle.linear_transformation.proofs.Writing.{words_length}
 use Rattle.linear_transformation.proofs.Planting.{levels_are, switches_are, records_are}
-
--- ---- refusals
-
-module _ {b g n : ℕ} {gs : List ℤ} {r : Result Unit Refusal} (j : GiantsJudged b g n gs r) (ds : List (Bool × Refusal)) where
-  refused_first : {x : Refusal} → r ≡ Err x → first_refusal (giant_refusals (PowersOfTwo b g n) gs ++ ds) ≡ Some x
-  refused_first m = still_refused (giant_refusals (PowersOfTwo b g n) gs) ds (some_of j.answer m)
-
-  refused_later : r ≡ Ok tt → first_refusal (giant_refusals (PowersOfTwo b g n) gs ++ ds) ≡ first_refusal ds
-  refused_later e = first_later (giant_refusals (PowersOfTwo b g n) gs) ds (none_of j.answer e)
 
 -- ---- the tree of the list, from the heap
 
@@ -97,41 +86,30 @@ module _ {slots step : ℕ} {gs : List ℤ} {heap : List Bool} {r : ℕ} (p : Pl
         small = p.small;
       }
 
--- ---- trees that stand in the heap
+-- ---- the same of a tree that is planted
 
-module _ {slots step : ℕ} {gs : List ℤ} {heap : List Bool} {bits count : ℕ} (s : Sizes slots step gs heap bits count) {room : ℕ} (l : count ≤ room) where
-  sizes_count : count ≡ length (heap_records bits heap)
+module _ {b g n : ℕ} {gs gs' : List ℤ} {step slots : ℕ} {t : HeapTree} where
+  -- over giants that were accepted
+  pub tree_accepted : GiantsAccepted b g n gs step slots gs' → TreeOf slots step gs' t → TreeOf n g gs t
+  tree_accepted a o = rw (a.step_is, a.slots_is, a.giants_are) at o
+
+module _ {slots step : ℕ} {gs : List ℤ} {t : HeapTree} (o : TreeOf slots step gs t) where
+  pub levels_of_tree : levels_in t ≡ (list_tree slots step gs).levels
+  levels_of_tree = rw (o.slots_is, o.step_is) (tree_levels o.planted)
+
+  pub keys_of_tree : keys_of (levels_in t) ≡ tree_keys (list_tree slots step gs)
+  keys_of_tree = rw (o.slots_is, o.step_is) (tree_keys_lem o.planted)
+
+-- ---- records
+
+module _ {slots step : ℕ} {gs : List ℤ} {heap : List Bool} {bits count : ℕ} (s : Sizes slots step gs heap bits count) where
+  pub records_counted : count ≡ length (heap_records bits heap)
   unfolding tree_switches
-  sizes_count = s.switches ∙ ap length (sym s.records_are)
+  records_counted = s.switches ∙ ap length (sym s.records_are)
 
-  stands : Stands (list_tree slots step gs) room heap
-  unfolding tree_switches
-  stands =
-      record {
-        records_are = rw (← s.bits) s.records_are;
-        asked = rw (← s.bits) (record { low = s.small; room = omega (arith, sizes_count) });
-      }
-
-  pub grown_accepted : {e : Option Refusal} → e ≡ None → Grown e (list_tree slots step gs) room heap (Ok (record { bits = bits; pairs = count }))
-  grown_accepted q = record { answer = rw (q, s.bits, s.switches) refl; stands = λ _. stands }
-
-module _ {e : Option Refusal} {t : Tree} {room : ℕ} {heap : List Bool} where
-  pub grown_refused : {x : Refusal} → e ≡ Some x → Grown e t room heap (Err x)
-  grown_refused q = record { answer = rw q; stands = λ h. cc (q, h) }
-
-  module _ {r : Result TreeSizes Refusal} (w : Grown e t room heap r) {s : TreeSizes} (h : r ≡ Ok s) where
-    accepted : (e ≡ None) × (s ≡ tree_sizes t)
-    accepted = when_ok e (tree_sizes t) s (sym h ∙ w.answer)
-
-    pub write_asked : WriteAsked s.bits heap room
-    write_asked = rw accepted.1 (w.stands accepted.0).asked
-
-    pub records_told : {ps ps' : List PairRecord} → ps' ≡ in_front (heap_records s.bits heap) ps → RecordsLeft e t ps ps' (Ok (Some s))
-    records_told {ps} q =
-        record {
-          answer = rw (accepted.0, accepted.1);
-          records_are = rw accepted.0 (q ∙ rw (accepted.1, (w.stands accepted.0).records_are));
-        }
+  pub records_told : {e : Option Refusal} {ps ps' : List PairRecord} → e ≡ None → ps' ≡ in_front (heap_records bits heap) ps
+      → RecordsLeft e (list_tree slots step gs) ps ps' (Ok (Some (record { bits = bits; pairs = count })))
+  records_told {ps = ps} q w = record { answer = rw (q, s.bits, s.switches) refl; records_are = rw q (w ∙ ap (λ (x : List PairRecord). in_front x ps) s.records_are) }
 
 -- a refused call writes no records
 pub records_refused : {e : Option Refusal} {t : Tree} {x : Refusal} → e ≡ Some x → (ps : List PairRecord) → RecordsLeft e t ps ps (Err x)
@@ -139,74 +117,62 @@ records_refused q ps = record { answer = rw q; records_are = rw q }
 
 -- ---- the answers of the tree
 
-module _ {b g n : ℕ} {gs : List ℤ} {r : Result Unit Refusal} (j : GiantsJudged b g n gs r) {ls vs : List ℕ} {room : ℕ} {heap : List Bool} where
-  refused_by : {x : Refusal} → grow_refusal b g n gs ls vs room ≡ Some x → ListGrown b g n gs ls ls vs vs room heap (Err x)
-  refused_by q = record { grown = grown_refused q; leaves_are = rw q; levels_are = rw q }
+module _ (b g n : ℕ) (gs : List ℤ) (ls vs : List ℕ) (ps : List PairRecord) where
+  abbrev tree_refusal : Option Refusal
+  tree_refusal = first_refusal (giant_refusals (PowersOfTwo b g n) gs ++ tree_room (list_tree n g gs) ls vs (length ps))
 
-  pub tree_wrong : {x : Refusal} → r ≡ Err x → ListGrown b g n gs ls ls vs vs room heap (Err x)
-  tree_wrong m = refused_by (refused_first j (tree_room (list_tree n g gs) ls vs room) m)
+  refused_by : {x : Refusal} → tree_refusal ≡ Some x → TreeWritten (PowersOfTwo b g n) gs ls ls vs vs ps ps (Err x)
+  refused_by q = let k = records_refused {t = list_tree n g gs} q ps in record { answer = k.answer; leaves_are = rw q; levels_are = rw q; records_are = k.records_are }
 
-  module _ (e : r ≡ Ok tt) {bits count : ℕ} (s : Sizes n g gs heap bits count) where
-    pub leaves_small : length ls < length gs → ListGrown b g n gs ls ls vs vs room heap (Err Room)
-    leaves_small l = refused_by (refused_later j (tree_room (list_tree n g gs) ls vs room) e ∙ (rw (s.leaves, lt-ltb _ _ l)))
+  module _ (z : first_refusal (giant_refusals (PowersOfTwo b g n) gs) ≡ None) {t : HeapTree} (o : TreeOf n g gs t) {count : ℕ} (c : count ≡ switches_in t) where
+    abbrev s : Sizes n g gs t.heap.now t.bits count
+    s = sizes o.planted c
 
-    pub levels_small : length gs ≤ length ls → length vs < 2 * bits → ListGrown b g n gs ls ls vs vs room heap (Err Room)
-    levels_small k l = refused_by (refused_later j (tree_room (list_tree n g gs) ls vs room) e ∙ (rw (s.leaves, s.levels, le-ltb _ _ k, lt-ltb _ _ l)))
+    later : tree_refusal ≡ first_refusal (tree_room (list_tree n g gs) ls vs (length ps))
+    later = first_later (giant_refusals (PowersOfTwo b g n) gs) (tree_room (list_tree n g gs) ls vs (length ps)) z
 
-    pub pairs_small : length gs ≤ length ls → 2 * bits ≤ length vs → room < count → ListGrown b g n gs ls ls vs vs room heap (Err Room)
-    pairs_small k m l = refused_by (refused_later j (tree_room (list_tree n g gs) ls vs room) e ∙ (rw (s.leaves, s.levels, ← s.switches, le-ltb _ _ k, le-ltb _ _ m, lt-ltb _ _ l)))
+    pub leaves_small : length ls < length gs → TreeWritten (PowersOfTwo b g n) gs ls ls vs vs ps ps (Err Room)
+    leaves_small l = refused_by (later ∙ rw (s.leaves, lt-ltb _ _ l))
 
-    pub tree_grown : {ls' vs' : List ℕ} → length gs ≤ length ls → 2 * bits ≤ length vs → count ≤ room
-        → ls' ≡ in_front (leaves_at n g bits gs) ls → vs' ≡ in_front (level_words (heap_levels n g bits heap bits)) vs
-        → ListGrown b g n gs ls ls' vs vs' room heap (Ok (record { bits = bits; pairs = count }))
-    tree_grown k m l x y =
-        let q : grow_refusal b g n gs ls vs room ≡ None = refused_later j (tree_room (list_tree n g gs) ls vs room) e ∙ (rw (s.leaves, s.levels, ← s.switches, le-ltb _ _ k, le-ltb _ _ m, le-ltb _ _ l)) in
+    pub levels_small : length gs ≤ length ls → length vs < 2 * t.bits → TreeWritten (PowersOfTwo b g n) gs ls ls vs vs ps ps (Err Room)
+    levels_small k l = refused_by (later ∙ rw (s.leaves, s.levels, le-ltb _ _ k, lt-ltb _ _ l))
+
+    pub pairs_small : length gs ≤ length ls → 2 * t.bits ≤ length vs → length ps < count → TreeWritten (PowersOfTwo b g n) gs ls ls vs vs ps ps (Err Room)
+    pairs_small k m l = refused_by (later ∙ rw (s.leaves, s.levels, ← s.switches, le-ltb _ _ k, le-ltb _ _ m, lt-ltb _ _ l))
+
+    pub tree_written : {ls' vs' : List ℕ} {ps' : List PairRecord} → length gs ≤ length ls → 2 * t.bits ≤ length vs → count ≤ length ps
+        → ls' ≡ in_front (leaves_at n g t.bits gs) ls → vs' ≡ in_front (level_words (levels_in t)) vs → ps' ≡ in_front (records_in t) ps
+        → TreeWritten (PowersOfTwo b g n) gs ls ls' vs vs' ps ps' (Ok (Some (record { bits = t.bits; pairs = count })))
+    tree_written k m l x y w =
+        let q : tree_refusal ≡ None = later ∙ rw (s.leaves, s.levels, ← s.switches, le-ltb _ _ k, le-ltb _ _ m, le-ltb _ _ l) in
+        let r = records_told s q w in
         record {
-          grown = grown_accepted s l q;
+          answer = r.answer;
           leaves_are = rw q (x ∙ ap (λ (w : List ℕ). in_front w ls) s.leaves_are);
-          levels_are = rw q (y ∙ ap (λ (w : List Level). in_front (level_words w) vs) s.levels_are);
+          levels_are = rw q (y ∙ ap (λ (w : List Level). in_front (level_words w) vs) (levels_of_tree o));
+          records_are = r.records_are;
         }
-
-module _ {b g n : ℕ} {gs : List ℤ} {ls ls' vs vs' : List ℕ} {ps : List PairRecord} {heap : List Bool} {r : Result TreeSizes Refusal} (w : ListGrown b g n gs ls ls' vs vs' (length ps) heap r) where
-  pub tree_refused : {x : Refusal} → r ≡ Err x → TreeWritten (PowersOfTwo b g n) gs ls ls' vs vs' ps ps (Err x)
-  tree_refused {x} h =
-      let q = when_refused (grow_refusal b g n gs ls vs (length ps)) (tree_sizes (list_tree n g gs)) x (sym h ∙ w.grown.answer) in
-      let k = records_refused {t = list_tree n g gs} q ps in
-      record { answer = k.answer; leaves_are = w.leaves_are; levels_are = w.levels_are; records_are = k.records_are }
-
-  pub tree_told : {s : TreeSizes} {ps' : List PairRecord} → r ≡ Ok s → ps' ≡ in_front (heap_records s.bits heap) ps → TreeWritten (PowersOfTwo b g n) gs ls ls' vs vs' ps ps' (Ok (Some s))
-  tree_told h q =
-      let k = records_told w.grown h q in
-      record { answer = k.answer; leaves_are = w.leaves_are; levels_are = w.levels_are; records_are = k.records_are }
 
 -- ---- keys
 
-keys_are : {slots step : ℕ} {gs : List ℤ} {heap : List Bool} {bits count : ℕ} → Planted slots step gs heap bits → count ≡ length (keys_of (heap_levels slots step bits heap bits)) → length (tree_keys (list_tree slots step gs)) ≡ count
-keys_are p k = sym (k ∙ ap length (tree_keys_lem p))
+module _ (b g n : ℕ) (gs : List ℤ) (old : List ℕ) where
+  module _ (z : first_refusal (giant_refusals (PowersOfTwo b g n) gs) ≡ None) {t : HeapTree} (o : TreeOf n g gs t) {count : ℕ} (k : count ≡ length (keys_of (levels_in t))) where
+    keys_counted : count ≡ length (tree_keys (list_tree n g gs))
+    keys_counted = k ∙ ap length (keys_of_tree o)
 
-module _ {b g n : ℕ} {gs : List ℤ} {r : Result Unit Refusal} (j : GiantsJudged b g n gs r) {old : List ℕ} where
-  pub keys_wrong : {x : Refusal} → r ≡ Err x → ListWritten (giant_refusals (PowersOfTwo b g n) gs) (tree_keys (list_tree n g gs)) old old (Err x)
-  keys_wrong m = list_refused_by (giant_refusals (PowersOfTwo b g n) gs) (tree_keys (list_tree n g gs)) old (some_of j.answer m)
-
-  module _ (e : r ≡ Ok tt) {heap : List Bool} {bits count : ℕ} (p : Planted n g gs heap bits) (k : count ≡ length (keys_of (heap_levels n g bits heap bits))) where
     pub keys_small : length old < count → ListWritten (giant_refusals (PowersOfTwo b g n) gs) (tree_keys (list_tree n g gs)) old old (Err Room)
-    keys_small l =
-        let q : first_refusal (giant_refusals (PowersOfTwo b g n) gs ++ ((ltb (length old) (length (tree_keys (list_tree n g gs))), Room) ∷ [])) ≡ Some Room = refused_later j ((ltb (length old) (length (tree_keys (list_tree n g gs))), Room) ∷ []) e ∙ rw (keys_are p k, lt-ltb _ _ l) in
-        record { answer = rw q refl; words = rw q refl }
+    keys_small l = list_later_by (giant_refusals (PowersOfTwo b g n) gs) z (list_short (tree_keys (list_tree n g gs)) old keys_counted l)
 
-    pub keys_written : {new : List ℕ} {x : ℕ} → count ≤ length old → Behind 0 (keys_of (heap_levels n g bits heap bits)) old new x → ListWritten (giant_refusals (PowersOfTwo b g n) gs) (tree_keys (list_tree n g gs)) old new (Ok count)
+    pub keys_written : {new : List ℕ} {x : ℕ} → count ≤ length old → Behind 0 (keys_of (levels_in t)) old new x → ListWritten (giant_refusals (PowersOfTwo b g n) gs) (tree_keys (list_tree n g gs)) old new (Ok count)
     keys_written l w =
-        let q : first_refusal (giant_refusals (PowersOfTwo b g n) gs ++ ((ltb (length old) (length (tree_keys (list_tree n g gs))), Room) ∷ [])) ≡ None = refused_later j ((ltb (length old) (length (tree_keys (list_tree n g gs))), Room) ∷ []) e ∙ rw (keys_are p k, le-ltb _ _ l) in
-        record { answer = rw (q, keys_are p k) refl; words = rw q (w.is ∙ ap (λ (t : List ℕ). in_front t old) (tree_keys_lem p)) }
+        list_later_by (giant_refusals (PowersOfTwo b g n) gs) z
+        (list_written (tree_keys (list_tree n g gs)) old keys_counted l (w.is ∙ ap (λ (x : List ℕ). in_front x old) (keys_of_tree o)))
 
 -- ---- switches
 
-module _ {b g n : ℕ} {gs : List ℤ} {r : Result Unit Refusal} (j : GiantsJudged b g n gs r) where
-  pub switches_wrong : {x : Refusal} → r ≡ Err x → Err x ≡ answered (first_refusal (giant_refusals (PowersOfTwo b g n) gs)) (tree_switches (list_tree n g gs))
-  switches_wrong m = rw (some_of j.answer m)
-
-  pub switches_right : r ≡ Ok tt → {heap : List Bool} {bits count : ℕ} → Planted n g gs heap bits → count ≡ heap_switches bits heap bits → Ok count ≡ answered (first_refusal (giant_refusals (PowersOfTwo b g n) gs)) (tree_switches (list_tree n g gs))
-  switches_right e p k = rw (none_of j.answer e, k, tree_switches_lem p) refl
+pub switches_right : (b g n : ℕ) (gs : List ℤ) → first_refusal (giant_refusals (PowersOfTwo b g n) gs) ≡ None → {t : HeapTree} {count : ℕ} → TreeOf n g gs t → count ≡ switches_in t
+    → Ok count ≡ answered (first_refusal (giant_refusals (PowersOfTwo b g n) gs)) (tree_switches (list_tree n g gs))
+switches_right b g n gs z o k = rw (z, k, tree_switches_lem o.planted) refl
 
 -- ---- per rotation
 

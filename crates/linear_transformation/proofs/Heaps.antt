@@ -2,14 +2,12 @@
 -- Assumes nothing.
 use Prim.Native.Nat.{ℕ, zero, suc, ◌+◌, ◌*◌, ◌-◌, ◌^◌, ◌≤◌, ◌<◌}
 use mathlib.Core.Path.{◌≡◌, refl, sym, ap, ◌∙◌}
-use mathlib.Core.Bool.{Bool, false, ◌||◌}
+use mathlib.Core.Bool.{Bool, ◌||◌}
 use mathlib.Core.List.{List, [], ◌∷◌, append-nil}
 use native.Mathlib.Nat.{le_refl, sub-zero}
 use native.Mathlib.Numerals.{add-one}
-use native.Mathlib.Decide.{ℕ_discrete}
 use native.Mathlib.Omega.{arith}
-use lib.ListN.{length, set, length-set, length-map, length-append}
-use lib.Seq.{get_or-set_same, get_or-set_other}
+use lib.ListN.{length, length-map, length-append}
 use lib.Pow.{pow_mono}
 use Rattle.ring.specs.Lists.{join}
 use Rattle.ring.specs.Marks.{marks}
@@ -21,7 +19,7 @@ use Rattle.ring.specs.Laws.Vectors.{tabulate_more}
 use Rattle.std.specs.List.{sum_by}
 use Rattle.linear_transformation.proofs.Ranges.{upto, sum_more}
 use Rattle.linear_transformation.specs.Laws.Trees.{level_places}
-use Rattle.linear_transformation.specs.Steps.Trees.{Climbing, Climbed, odd_at, pair_at, heap_pairs, level_pairs, heap_switches}
+use Rattle.linear_transformation.specs.Steps.Trees.{odd_at, pair_at, heap_pairs, level_pairs, heap_switches}
 
 -- ---- climbing
 
@@ -30,32 +28,6 @@ pub record Climbs (size : ℕ) (old new : List Bool) (h : ℕ) : Type 0 where
   pub leaves : (k : ℕ) → size ≤ k → marks new k ≡ marks old k
   pub inner : (k : ℕ) → h ≤ k → 1 ≤ k → k < size → marks new k ≡ (marks new (2 * k) || marks new (2 * k + 1))
   pub room : h ≤ size
-
-pub climbs_none : {size : ℕ} {heap : List Bool} → Climbing size heap → Climbs size heap heap size
-climbs_none c = record { len = c.len; leaves = λ k l. refl; inner = λ k a b d. absurd (omega arith); room = le_refl _ }
-
-module _ {size : ℕ} {old new : List Bool} {h : ℕ} (s : Climbs size old new h) where
-  pub climbs_more : {v : Bool} → 1 < h → size ≤ 65536 → v ≡ (marks new (2 * (h - 1)) || marks new (2 * (h - 1) + 1)) → Climbs size old (set new (h - 1) v) (h - 1)
-  climbs_more {v} l z e =
-      record {
-        len = simp length-set s.len;
-        leaves = λ k q. other k (λ x. omega (arith, s.room)) ∙ s.leaves k q;
-        inner = λ k a b d. by k a b d (ℕ_discrete k (h - 1));
-        room = omega (arith, s.room);
-      }
-    where
-      other : (k : ℕ) → (k ≡ h - 1 → ⊥) → marks (set new (h - 1) v) k ≡ marks new k
-      other k n = get_or-set_other new (h - 1) k v false n
-
-      both : (k : ℕ) → h - 1 ≤ k → 1 ≤ k → (marks (set new (h - 1) v) (2 * k) || marks (set new (h - 1) v) (2 * k + 1)) ≡ (marks new (2 * k) || marks new (2 * k + 1))
-      both k a b = rw (other (2 * k) (λ x. omega arith), other (2 * k + 1) (λ x. omega arith))
-
-      by : (k : ℕ) → h - 1 ≤ k → 1 ≤ k → k < size → Dec (k ≡ h - 1) → marks (set new (h - 1) v) k ≡ (marks (set new (h - 1) v) (2 * k) || marks (set new (h - 1) v) (2 * k + 1))
-      by k a b d (yes q) = rw (both k a b) (rw q (get_or-set_same new (h - 1) v false (omega (arith, s.len, s.room)) ∙ e))
-      by k a b d (no n) = rw (both k a b) (other k n ∙ s.inner k (omega arith) b d)
-
-  pub climbs_done : h ≤ 1 → Climbed size old new
-  climbs_done l = record { len = s.len; leaves = s.leaves; inner = λ k a d. s.inner k (omega arith) a d }
 
 -- ---- the pairs of a level
 

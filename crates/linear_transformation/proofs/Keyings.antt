@@ -1,7 +1,7 @@
 -- What a strategy makes of sorted diagonals: baby step, babies, keys and switches.
 -- Assumes nothing.
 use Prim.Native.Nat.{ℕ, ◌+◌, ◌^◌, ◌≤◌, ◌<◌}
-use mathlib.Core.Path.{◌≡◌, ap, ◌∙◌}
+use mathlib.Core.Path.{◌≡◌, sym, ap, ◌∙◌}
 use mathlib.Core.Bool.{Bool, true, false}
 use mathlib.Core.List.{List, [], ◌∷◌, ◌++◌, map, map-append}
 use native.Mathlib.Nat.{mod-eq_of_lt, mul-mod_left}
@@ -9,7 +9,6 @@ use native.Mathlib.Omega.{arith}
 use lib.IntN.{ℤ, pos}
 use lib.Signed.{mag}
 use lib.ListN.{length, get_or, set, take}
-use lib.Seq.{take_all}
 use mir.Syntax.{w64}
 use mir.Val.{to_z}
 use Rattle.ring.specs.Residues.{residue_of}
@@ -22,27 +21,29 @@ use Rattle.linear_transformation.specs.Strategies.{width_outside}
 use Rattle.linear_transformation.specs.declared.LinearTransformationStrategy.{LinearTransformationStrategy}
 use Rattle.linear_transformation.specs.declared.LinearTransformationStrategy.TheVariants.{Bsgs, BsgsPowersOfTwo, Direct}
 use Rattle.linear_transformation.specs.Closures.{closure, nonzeros}
-use Rattle.linear_transformation.specs.Steps.Babies.{Bounded, Closes}
+use Rattle.linear_transformation.specs.Steps.Babies.{Closes}
 use Rattle.std.specs.Prelude.{Result}
 use Rattle.ring.specs.declared.refusal.Refusal.{Refusal}
 use Rattle.linear_transformation.specs.declared.plan.PlanSizes.{PlanSizes}
 use Rattle.linear_transformation.specs.declared.digits.Digit.{Digit}
 use Rattle.linear_transformation.specs.Plans.{width_of, babies, giants, Planned}
-use Rattle.linear_transformation.specs.Steps.Plans.{Writing, Diagonals, multiples, BabiesMarked, StepIs, MultiplesEnd, WordsWritten, RunEnd, RunFrom}
-use Rattle.linear_transformation.specs.Steps.Trees.{Stepped, OneGiant, DigitIs, LargestIs, LeafAsked, LeafIs, leaves_at, Blank, LeavesMarked}
+use Rattle.linear_transformation.specs.Steps.Plans.{Diagonals, multiples, BabiesMarked, StepIs, MultiplesEnd, WordsWritten, RunEnd, RunFrom}
+use Rattle.linear_transformation.specs.Steps.Trees.{OneGiant, DigitIs, LargestIs, LeafAsked, LeafIs, leaves_at, Blank, LeavesMarked}
 use Rattle.linear_transformation.specs.Steps.Keys.{Sizable, Accepted, BabyTable, ClosureTable, giants_of}
 use Rattle.linear_transformation.specs.Laws.Plans.{giant_le, giant_times}
 use Rattle.linear_transformation.specs.Laws.Runs.{planned_bound, giants_none, Walked, walked_none, walked_more, walked_giants}
 use Rattle.linear_transformation.proofs.Strategies.{Own}
-use Rattle.linear_transformation.proofs.PlanAnswers.{babies_of, words_at, is_diagonals, own_babies_lem, step_is, closed_below, closed_babies, closable, closed_marks, in_range_lem, planned_at}
+use Rattle.linear_transformation.proofs.PlanAnswers.{babies_of, words_at, is_diagonals, own_babies_lem, step_is, closed_below, closed_babies, closable, closed_marks, in_range_lem}
 use Rattle.linear_transformation.proofs.Signs.{max_is, natural_is}
 use Rattle.linear_transformation.proofs.Listings.{largest_none, largest_more, leaves_marked_none, leaves_marked_more}
-use Rattle.linear_transformation.specs.Laws.Turns.{rest, giants_turning, planned_rest}
+use Rattle.linear_transformation.specs.Laws.Turns.{rest, giants_turning}
 use Rattle.linear_transformation.specs.Laws.CommonDivisors.{baby_step_bound}
+use Rattle.linear_transformation.specs.Steps.Tables.{Bounded}
+use Rattle.linear_transformation.specs.Steps.Numbers.{Stepped}
 
--- the step of the sorted diagonals that stand in front of a list
-pub part_step : {slots width : ℕ} {part ds : List ℕ} {r : ℕ} → Range slots → Planned slots width ds → part ≡ ds → StepIs width part r → r ≡ baby_step slots width ds
-part_step {slots} {width} a p e s = s.is ∙ ap (baby_step 65536 width) e ∙ baby_step_bound p 65536 a.high a.low
+-- the baby step of slots, which the diagonals are below
+pub part_step : {slots width : ℕ} {ds : List ℕ} {r : ℕ} → Range slots → Planned slots width ds → StepIs width ds r → r ≡ baby_step slots width ds
+part_step a p s = s.is ∙ baby_step_bound p 65536 a.high a.low
 
 -- ---- the tree over the plan's giants
 
@@ -90,9 +91,6 @@ module _ {slots width : ℕ} {ds : List ℕ} {x at : ℕ} (s : Topping slots wid
   pub topping_more : {giant end : ℕ} {d : Digit} {m y : ℕ} → Sizable slots width ds → at < length ds → RunFrom width ds at giant end → DigitIs slots width (to_z w64 giant) d → m ≡ mag d.0 → y ≡ ord_max nat_cmp x m → Topping slots width ds y end
   topping_more {m = m} z l r q i j = record { walked = walked_more (wide_planned z) s.walked l r; so_far = rw (giants_more z l r s.walked) (largest_more s.so_far (rw (giant_word z l r) at q) i (j ∙ max_is x m)) }
 
-  pub topping_done : length ds ≤ at → LargestIs slots width (giants_of width ds) x
-  topping_done h = rw (take_all at ds h) at s.so_far
-
 -- their leaves are marked
 pub record Leafing (slots width bits : ℕ) (ds : List ℕ) (heap : List Bool) (at : ℕ) : Type 0 where
   pub walked : Walked width ds at
@@ -104,9 +102,6 @@ leafing_none slots width bits ds b = record { walked = walked_none width ds; so_
 module _ {slots width bits : ℕ} {ds : List ℕ} {heap : List Bool} {at : ℕ} (s : Leafing slots width bits ds heap at) where
   pub leafing_more : {giant end p n : ℕ} → Sizable slots width ds → at < length ds → RunFrom width ds at giant end → bits ≤ 16 → p ≡ 2 ^ bits → LeafIs slots width bits (to_z w64 giant) n → Leafing slots width bits ds (set heap (p + n) true) end
   leafing_more z l r b e q = record { walked = walked_more (wide_planned z) s.walked l r; so_far = rw (giants_more z l r s.walked) (leaves_marked_more (giants_of width (take at ds)) s.so_far b e (rw (giant_word z l r) at q)) }
-
-  pub leafing_done : length ds ≤ at → LeavesMarked bits (leaves_at slots width bits (giants_of width ds)) heap
-  leafing_done h = rw (take_all at ds h) at s.so_far
 
 -- ---- tables of babies
 
@@ -139,9 +134,6 @@ width_range (Bsgs w) e = in_range_lem e
 width_range (BsgsPowersOfTwo w) e = in_range_lem e
 width_range Direct e = record { low = omega arith; high = omega arith }
 
-pub of_width : {slots w : ℕ} {s : LinearTransformationStrategy} {ds : List ℕ} → Accepted slots s ds → width_of s ≡ w → Sizable slots w ds
-of_width {s} a e = record { slots_in_fact = a.slots_in_fact; width_in = rw (← e) (width_range s a.width_in); planned = planned_at e a.planned }
-
 module _ (slots : ℕ) (ds : List ℕ) {s : LinearTransformationStrategy} {seen : List Bool} {n step w : ℕ} where
   pub table_own : Own s slots ds → w ≡ width_of s → BabyTable (babies slots w ds) seen n step → BabyTable (plan_babies slots s ds) seen n step
   table_own o e t = rw (o.babies_are, ← e) t
@@ -152,20 +144,11 @@ module _ (slots : ℕ) (ds : List ℕ) {s : LinearTransformationStrategy} {seen 
 -- ---- giants that are not 0
 
 module _ {width : ℕ} {ds : List ℕ} (g : Diagonals width ds) {r : ℕ} (e : RunEnd ds 0 width r) where
-  pub rest_diagonals : Diagonals width (rest r ds)
-  rest_diagonals = record { planned = planned_rest g.planned e; narrow = g.narrow }
-
-  pub turns_counted : {n : ℕ} → n ≡ length (giants 65536 width (rest r ds)) → n ≡ length (nonzeros (giants 65536 width ds))
-  turns_counted q = rw (giants_turning g.planned e) q
-
-  pub turns_asked : (at : ℕ) {n : ℕ} → at + length (nonzeros (giants 65536 width ds)) ≤ n → at + length (giants 65536 width (rest r ds)) ≤ n
-  turns_asked at q = rw (giants_turning g.planned e) at q
-
-  pub turns_written : {at to : ℕ} {old new : List ℕ} → Writing at (giants 65536 width (rest r ds)) old new to → Writing at (nonzeros (giants 65536 width ds)) old new to
-  turns_written w = rw (giants_turning g.planned e) w
+  pub rest_giants : giants 65536 width (rest r ds) ≡ nonzeros (giants 65536 width ds)
+  rest_giants = sym (giants_turning g.planned e)
 
 -- ---- the plan's words
 
-pub plan_written : {slots : ℕ} {s : LinearTransformationStrategy} {ds : List ℕ} {seen : List Bool} {n step w : ℕ} {old new : List ℕ} {r : Result PlanSizes Refusal} → Accepted slots s ds → BabyTable (plan_babies slots s ds) seen n step → w ≡ width_of s
-    → WordsWritten (babies_of seen n step) 65536 w ds old new r → WordsWritten (plan_babies slots s ds) slots (width_of s) ds old new r
-plan_written {s} a t e v = words_at a.slots_in_fact (width_range s a.width_in) a.planned t.are (rw e at v)
+pub plan_written : {slots : ℕ} {s : LinearTransformationStrategy} {ds : List ℕ} {seen : List Bool} {n step : ℕ} {old new : List ℕ} {r : Result PlanSizes Refusal} → Accepted slots s ds → BabyTable (plan_babies slots s ds) seen n step
+    → WordsWritten (babies_of seen n step) 65536 (width_of s) ds old new r → WordsWritten (plan_babies slots s ds) slots (width_of s) ds old new r
+plan_written {s} a t v = words_at a.slots_in_fact (width_range s a.width_in) a.planned t.are v

@@ -19,6 +19,7 @@ pub mod Planting
 pub mod Recording
 pub mod Growth
 pub mod Keyings
+pub mod Facts
 pub mod KeyAnswers
 pub mod Storings
 pub mod Missings

@@ -12,12 +12,11 @@ use lib.ListN.{length, length-map}
 use lib.IntN.{ℤ}
 use Rattle.ring.specs.Lists.{Each, among}
 use Rattle.ring.specs.Searches.{below}
-use Rattle.std.specs.Prelude.{Result, Ok, Err}
+use Rattle.std.specs.Prelude.{Some, Result, Ok, Err}
 use Rattle.ring.specs.declared.refusal.Refusal.{Refusal}
 use Rattle.ring.specs.declared.refusal.Refusal.TheVariants.{Room}
 use Rattle.ring.specs.Refusals.{first_refusal, outside, Range}
 use Rattle.ring.specs.Marks.{marks}
-use Rattle.ring.specs.Calls.{MarksCounted}
 use Rattle.ring.specs.Laws.Lists.{each_then, each_both, each_map}
 use Rattle.ring.specs.Laws.Searches.{by_false}
 use Rattle.ring.specs.Laws.Refusals.{inside, first_later}
@@ -30,17 +29,17 @@ use Rattle.linear_transformation.specs.declared.LinearTransformationStrategy.The
 use Rattle.linear_transformation.specs.Schedules.{baby_step, baby_multiples, plan_babies, plan_words}
 use Rattle.linear_transformation.specs.Closures.{closure, baby_closure}
 use Rattle.linear_transformation.specs.Calls.{plan_refusals, plan_refusal, PlanWritten}
-use Rattle.linear_transformation.specs.Steps.Keys.{PlanJudged}
-use Rattle.linear_transformation.specs.Steps.Babies.{Bounded, Closes}
-use Rattle.linear_transformation.specs.Steps.Plans.{Writing, Diagonals, multiples, BabiesMarked, StepIs, MultiplesEnd, WordsWritten}
+use Rattle.linear_transformation.specs.Steps.Babies.{Closes}
+use Rattle.linear_transformation.specs.Steps.Plans.{Diagonals, multiples, BabiesMarked, StepIs, MultiplesEnd, DiagonalsAccepted, WordsWritten}
 use Rattle.ring.specs.Laws.Members.{each_among, rising_below}
 use Rattle.linear_transformation.specs.Laws.Plans.{words_length, babies_rise, babies_below, babies_narrow}
 use Rattle.linear_transformation.specs.Laws.Closures.{cleared_lower, positive, closure_least, closure_rising}
 use Rattle.linear_transformation.specs.Laws.Tables.{closes_closure}
 use Rattle.linear_transformation.specs.Laws.Runs.{planned_length, planned_bound, giants_bound, babies_bound, words_bound, pairs_as_words, pairs_words_length, giants_few}
 use Rattle.linear_transformation.specs.Laws.CommonDivisors.{baby_step_bound}
-use Rattle.linear_transformation.proofs.Judgings.{none_of, some_of, still_refused}
+use Rattle.linear_transformation.proofs.Judgings.{still_refused}
 use Rattle.linear_transformation.proofs.Writings.{writing_then, writing_done}
+use Rattle.linear_transformation.specs.Steps.Tables.{Bounded, Writing}
 
 -- ---- the whole plan
 
@@ -55,13 +54,13 @@ pub record Sizes (width step : ℕ) (ds : List ℕ) (seen : List Bool) (n nb ng 
   pub giants_are : ng ≡ length (giants 65536 width ds)
   pub small : nb + 3 * ng + length ds ≤ 65536 * 5
 
-pub sizes : {width : ℕ} (step : ℕ) {ds : List ℕ} {seen : List Bool} {n nb ng : ℕ} → Diagonals width ds → MarksCounted seen n nb → n ≤ 65536 → ng ≡ length (giants 65536 width ds) → Sizes width step ds seen n nb ng
+pub sizes : {width : ℕ} (step : ℕ) {ds : List ℕ} {seen : List Bool} {n nb ng : ℕ} → Diagonals width ds → nb ≡ length (below (marks seen) n) → n ≤ 65536 → ng ≡ length (giants 65536 width ds) → Sizes width step ds seen n nb ng
 sizes {width} step {ds} {seen} {n} g m h e =
     record {
       diagonals = g;
-      babies_are = m.within h;
+      babies_are = m;
       giants_are = e;
-      small = omega (arith, m.within h, e, below_le (marks seen) n, giants_few 65536 width ds, planned_length g.planned);
+      small = omega (arith, m, e, below_le (marks seen) n, giants_few 65536 width ds, planned_length g.planned);
     }
 
 module _ {width step : ℕ} {ds : List ℕ} {seen : List Bool} {n nb ng : ℕ} (z : Sizes width step ds seen n nb ng) where
@@ -77,25 +76,13 @@ module _ {width step : ℕ} {ds : List ℕ} {seen : List Bool} {n nb ng : ℕ} (
       record { answer = rw e; words = rw e }
 
   module _ (plan : List ℕ) (h : nb + 3 * ng + length ds ≤ length plan) where
-    pub multiples_asked : length (below (marks seen) n) ≤ length plan
-    multiples_asked = omega (arith, z.babies_are)
-
     module _ {plan₁ : List ℕ} {a : ℕ} (u : Writing 0 (babies_of seen n step) plan plan₁ a) where
-      pub giants_asked : a + length (giants 65536 width ds) ≤ length plan₁
-      giants_asked = omega (arith, u.at_is, u.len, babies_length, z.giants_are)
-
       module _ {plan₂ : List ℕ} {b : ℕ} (v : Writing a (giants 65536 width ds) plan₁ plan₂ b) where
-        pub pairs_asked : b + 2 * length (giants 65536 width ds) ≤ length plan₂
-        pairs_asked = omega (arith, u.at_is, u.len, v.at_is, v.len, babies_length, z.giants_are)
-
         module _ {plan₃ : List ℕ} {c : ℕ} (w : Writing b (pairs_as_words (plan_pairs 65536 width ds)) plan₂ plan₃ c) where
           pub index_asked : c + length ds ≤ length plan₃
           index_asked = omega (arith, u.at_is, u.len, v.at_is, v.len, w.at_is, w.len, babies_length, z.giants_are, pairs_words_length 65536 width ds)
 
           module _ {plan₄ : List ℕ} {d : ℕ} (x : Writing c (plan_index 65536 width ds) plan₃ plan₄ d) where
-            pub plan_same_length : length plan₄ ≡ length plan
-            plan_same_length = x.len ∙ w.len ∙ v.len ∙ u.len
-
             pub plan_written : WordsWritten (babies_of seen n step) 65536 width ds plan plan₄ (Ok (record { babies = nb; giants = ng; diagonals = length ds }))
             unfolding words_with
             plan_written =
@@ -171,17 +158,23 @@ module _ {slots width : ℕ} {ds : List ℕ} (a : Range slots) (w : Range width)
 
 -- ---- the calls
 
-module _ {slots : ℕ} {s : LinearTransformationStrategy} {r : Result Unit Refusal} (j : PlanJudged slots s r) (zs : List ℤ) {old : List ℕ} where
-  pub index_refused : {x : Refusal} → r ≡ Err x → PlanWritten slots s zs old old (Err x)
+-- the plan's words, where the diagonals were accepted
+pub words_same : {cs : List (Bool × Refusal)} {slots n : ℕ} {s t : LinearTransformationStrategy} {ds ks old new : List ℕ} {a : Result PlanSizes Refusal} → DiagonalsAccepted cs slots s ds n t ks
+    → WordsWritten (plan_babies n t ks) n (width_of t) ks old new a → WordsWritten (plan_babies slots s ds) slots (width_of s) ds old new a
+words_same k v = rw (k.slots_is, k.strategy_is, k.diagonals_are) at v
+
+module _ {slots : ℕ} {s : LinearTransformationStrategy} (zs : List ℤ) {old : List ℕ} where
+  pub index_refused : {x : Refusal} → first_refusal (plan_refusals slots s) ≡ Some x → PlanWritten slots s zs old old (Err x)
   index_refused n =
-      let q = still_refused (plan_refusals slots s) ((ltb (length old) (length (plan_words slots s (diagonals_of slots zs))), Room) ∷ []) (some_of j.answer n) in
+      let q = still_refused (plan_refusals slots s) ((ltb (length old) (length (plan_words slots s (diagonals_of slots zs))), Room) ∷ []) n in
       record { answer = rw q; words = rw q }
 
-  pub index_later : {ds new : List ℕ} {a : Result PlanSizes Refusal} → r ≡ Ok tt → ds ≡ diagonals_of slots zs → WordsWritten (plan_babies slots s ds) slots (width_of s) ds old new a → PlanWritten slots s zs old new a
+  pub index_later : {n : ℕ} {t : LinearTransformationStrategy} {ks new : List ℕ} {a : Result PlanSizes Refusal} → DiagonalsAccepted (plan_refusals slots s) slots s (diagonals_of slots zs) n t ks
+      → WordsWritten (plan_babies n t ks) n (width_of t) ks old new a → PlanWritten slots s zs old new a
   unfolding plan_words
-  index_later {new = new} {a = a} e d v =
-      let w : WordsWritten (plan_babies slots s (diagonals_of slots zs)) slots (width_of s) (diagonals_of slots zs) old new a = rw (← d) v in
-      let q : plan_refusal slots s zs old ≡ first_refusal ((ltb (length old) (length (plan_words slots s (diagonals_of slots zs))), Room) ∷ []) = first_later (plan_refusals slots s) ((ltb (length old) (length (plan_words slots s (diagonals_of slots zs))), Room) ∷ []) (none_of j.answer e) in
+  index_later k v =
+      let w = words_same k v in
+      let q : plan_refusal slots s zs old ≡ first_refusal ((ltb (length old) (length (plan_words slots s (diagonals_of slots zs))), Room) ∷ []) = first_later (plan_refusals slots s) ((ltb (length old) (length (plan_words slots s (diagonals_of slots zs))), Room) ∷ []) k.none in
       record { answer = rw q w.answer; words = rw q w.words }
 
 -- the table of the babies' multiples may be closed
@@ -198,6 +191,3 @@ closed_marks {slots} {width} {step} {ds} a w p e b c k =
 
 pub in_range_lem : {n : ℕ} → outside n ≡ false → Range n
 in_range_lem {n} e = let l = inside n e in record { low = l.0; high = l.1 }
-
-pub planned_at : {slots : ℕ} {ds : List ℕ} {v w : ℕ} → v ≡ w → Planned slots v ds → Planned slots w ds
-planned_at e p = rw (← e) p

@@ -1,12 +1,12 @@
 -- The walks that write a plan: what each loop keeps, a turn, and the end.
 -- Assumes nothing.
-use Prim.Native.Nat.{ℕ, zero, suc, ◌+◌, ◌-◌, ◌*◌, ◌/◌, ◌%◌, ◌≤◌, ◌<◌}
-use mathlib.Core.Path.{◌≡◌, refl, sym, ap, ◌∙◌}
+use Prim.Native.Nat.{ℕ, zero, suc, max, ◌+◌, ◌-◌, ◌*◌, ◌/◌, ◌%◌, ◌≤◌, ◌<◌}
+use mathlib.Core.Path.{◌≡◌, sym, ap, ◌∙◌}
 use mathlib.Core.Bool.{Bool, true, false, ◌||◌, or_assoc}
-use mathlib.Core.List.{List, [], ◌∷◌, map, map-append, append_assoc}
+use mathlib.Core.List.{List, [], ◌∷◌, ◌++◌, map, map-append, append_assoc}
 use mathlib.Core.Logic.{◌⊎◌, inl, inr}
 use native.Mathlib.Numerals.{add-one}
-use native.Mathlib.Nat.{div-le_self, zero-div, zero-add, zero-mod, mod-le, mod-eq_of_lt, mod-add-mod, mul-mod_left, eq-or-lt_of_le}
+use native.Mathlib.Nat.{div-le_self, zero-add, mod-le, mod-eq_of_lt, mod-add-mod, mul-mod_left, eq-or-lt_of_le}
 use native.Mathlib.Omega.{arith}
 use lib.Dec.{eqb, ltb}
 use lib.ListN.{length, get_or, set, take, length-set, length-append, take-append-drop, drop}
@@ -22,16 +22,17 @@ use Rattle.std.proofs.lemmas.List.Sums.{prefix_len-le-length, prefix_len_passes,
 use Rattle.std.proofs.lemmas.List.Folds.{length-prefix_len}
 use Rattle.ring.specs.Searches.{or_else}
 use Rattle.ring.specs.Divisors.{gcd_of, gcd_all}
-use Rattle.ring.specs.Marks.{marks, Unmarked}
+use Rattle.ring.specs.Marks.{marks}
 use Rattle.ring.specs.Laws.Lists.{each_at, join_append}
 use Rattle.linear_transformation.specs.Plans.{baby_of, giant_of, giants, plan_pairs, plan_index}
 use Rattle.ring.specs.Lists.{some}
-use Rattle.linear_transformation.specs.Steps.Plans.{Writing, Diagonals, BabiesMarked, StepIs, RunEnd, RunFrom, NextRun}
+use Rattle.linear_transformation.specs.Steps.Plans.{Diagonals, BabiesMarked, StepIs, RunEnd, RunFrom, NextRun}
 use Rattle.ring.specs.Laws.Members.{some_append}
 use Rattle.linear_transformation.specs.Laws.Plans.{index_babies, giant_baby, giant_le, baby_lt, giant_times}
 use Rattle.linear_transformation.specs.Laws.Runs.{planned_length, pairs_as_words, giants_none, pairs_none, pairs_words_length, multiples_are, Walked, walked_none, walked_more, walked_giants, walked_pairs, giants_part}
 use Rattle.linear_transformation.specs.Laws.CommonDivisors.{gcd_all_one, gcd_all_snoc, gcd_low, baby_step_is, or_else_low, or_else_some}
 use Rattle.linear_transformation.proofs.Writings.{writing_none, writing_more, mark_more}
+use Rattle.linear_transformation.specs.Steps.Tables.{Writing}
 
 -- ---- the index
 
@@ -52,9 +53,6 @@ pub record Indexing (ds : List ℕ) (width start : ℕ) (old new : List ℕ) (to
   pub multiple : base % width ≡ 0
   pub place : to ≡ start + t
   pub written : Writing start (map (baby_of width) (take t ds)) old new to
-
-pub indexing_none : (ds : List ℕ) (width start : ℕ) (old : List ℕ) → Indexing ds width start old old start 0 0
-indexing_none ds width start old = record { room = omega arith; multiple = zero-mod width; place = omega arith; written = writing_none start old }
 
 module _ {ds : List ℕ} {width start : ℕ} {old new : List ℕ} {to base t : ℕ} (s : Indexing ds width start old new to base t) where
   pub indexing_more : {g : ℕ} → t < length ds → start + length ds ≤ length old → g ≡ giant_of width (get_or ds t 0) → Indexing ds width start old (set new to (get_or ds t 0 - g)) (to + 1) g (t + 1)
@@ -118,6 +116,9 @@ pub record Stands (width : ℕ) (ds : List ℕ) (s : Runs) : Type 0 where
 abbrev pub Going : ℕ → List ℕ → Runs → Type 0
 Going width ds s = Diagonals s.width s.ds.now × IsFinite (at_most (length s.ds.now - s.at)) × Stands width ds s
 
+going_diagonals : {width : ℕ} {ds : List ℕ} {s : Runs} → Going width ds s → Diagonals width ds
+going_diagonals i = rw (i.2.list_is, i.2.width_is) at i.0
+
 module _ {width : ℕ} {ds : List ℕ} {s t : Runs} where
   pub going_first : Diagonals width ds → (t.ds.now ≡ ds) × (t.width ≡ width) × (t.at ≡ 0) → s ≡ t → Going width ds s × (s.at ≡ 0)
   going_first g b e = rw e ((rw (b.0, b.1) g, tt, record { list_is = b.0; width_is = b.1 }), b.2)
@@ -133,6 +134,12 @@ module _ {width : ℕ} {ds : List ℕ} {s t : Runs} where
 
   pub run_now : {x : Run} → Stands width ds s → NextRun s (Some x) t → RunFrom width ds s.at x.giant t.at
   run_now h n = rw (← h.list_is, ← h.width_is) n.run.3
+
+  -- the places of a run are small
+  pub run_places : {x : Run} → Going width ds s → NextRun s (Some x) t → (x.start < x.end) × (x.end ≤ 65536)
+  run_places i n =
+      let r = run_now i.2 n in
+      (omega (arith, r.some, n.run.1, n.run.2), omega (arith, planned_length (going_diagonals i).planned, r.run.inside, n.run.2))
 
   pub runs_end : Stands width ds s → NextRun s None t → length ds ≤ s.at
   runs_end h n = rw (← h.list_is) n.run.0
@@ -155,14 +162,6 @@ pub record Babying (ds : List ℕ) (width step : ℕ) (seen : List Bool) (t : �
   pub room : t ≤ length ds
   pub size : length seen ≡ 65536
   pub so_far : (k : ℕ) → marks seen k ≡ (eqb (0 / step) k || some (λ j. eqb (baby_of width j / step) k) (take t ds))
-
-pub babying_none : (ds : List ℕ) (width step : ℕ) {seen : List Bool} → Unmarked seen → Babying ds width step (set seen 0 true) 0
-babying_none ds width step {seen} u =
-    record {
-      room = omega arith;
-      size = simp length-set u.size;
-      so_far = λ k. mark_more seen 0 k (omega (arith, u.size)) ∙ rw (u.none k, zero-div step);
-    }
 
 pub baby_low : {width : ℕ} (step : ℕ) {ds : List ℕ} {t : ℕ} → Diagonals width ds → t < length ds → get_or ds t 0 % width / step < 65536
 baby_low {width} step {ds} {t} g l = omega (arith, diagonal_low g l, mod-le (get_or ds t 0) width, div-le_self (get_or ds t 0 % width) step)
@@ -225,20 +224,21 @@ pub record Heading (width : ℕ) (ds : List ℕ) (start : ℕ) (old new : List �
 pub heading_none : (width : ℕ) (ds : List ℕ) (start : ℕ) (old : List ℕ) → Heading width ds start old old start 0
 heading_none width ds start old = record { walked = walked_none width ds; written = rw (giants_none 65536 width) (writing_none start old) }
 
-module _ {width : ℕ} {ds : List ℕ} {start : ℕ} {old new : List ℕ} {to at : ℕ} (s : Heading width ds start old new to at) where
-  pub heading_room : {giant end : ℕ} → Diagonals width ds → at < length ds → RunFrom width ds at giant end → start + length (giants 65536 width ds) ≤ length old → to < length old
-  heading_room {giant} {end} g l r h =
-      omega (arith, s.written.at_is, ap length (walked_giants g.planned s.walked l r), length-append (giants 65536 width (take at ds)) (giant ∷ []), giants_part 65536 width end ds)
+module _ {width : ℕ} {ds : List ℕ} {start : ℕ} {old new : List ℕ} {to : ℕ} {s t : Runs} {x : Run} (i : Going width ds s × Heading width ds start old new to s.at) (n : NextRun s (Some x) t) (l : start + length (giants 65536 width ds) ≤ length old) where
+  giants_now : giants 65536 width (take t.at ds) ≡ giants 65536 width (take s.at ds) ++ (x.giant ∷ [])
+  giants_now = walked_giants (going_diagonals i.0).planned i.1.walked (run_inside i.0.2 n) (run_now i.0.2 n)
 
-  pub heading_more : {giant end : ℕ} → Diagonals width ds → at < length ds → RunFrom width ds at giant end → start + length (giants 65536 width ds) ≤ length old → Heading width ds start old (set new to giant) (to + 1) end
-  heading_more {giant} g l r h =
-      record {
-        walked = walked_more g.planned s.walked l r;
-        written = rw (walked_giants g.planned s.walked l r) (writing_more s.written (omega (arith, heading_room g l r h, s.written.len)) giant);
-      }
+  pub heading_room : to < length old
+  heading_room = omega (arith, l, i.1.written.at_is, ap length giants_now, length-append (giants 65536 width (take s.at ds)) (x.giant ∷ []), giants_part 65536 width t.at ds)
 
-  pub heading_done : length ds ≤ at → Writing start (giants 65536 width ds) old new to
-  heading_done h = rw (← take_all at ds h) s.written
+  pub heading_more : Going width ds t × Heading width ds start old (set new to x.giant) (to + 1) t.at
+  heading_more = (
+    going_on i.0 n,
+    record {
+      walked = walked_more (going_diagonals i.0).planned i.1.walked (run_inside i.0.2 n) (run_now i.0.2 n);
+      written = rw giants_now (writing_more i.1.written (omega (arith, heading_room, i.1.written.len)) x.giant);
+    },
+  )
 
 -- their pairs are written
 pub record Pairing (width : ℕ) (ds : List ℕ) (start : ℕ) (old new : List ℕ) (to at : ℕ) : Type 0 where
@@ -248,28 +248,26 @@ pub record Pairing (width : ℕ) (ds : List ℕ) (start : ℕ) (old new : List �
 pub pairing_none : (width : ℕ) (ds : List ℕ) (start : ℕ) (old : List ℕ) → Pairing width ds start old old start 0
 pairing_none width ds start old = record { walked = walked_none width ds; written = rw (pairs_none 65536 width) (writing_none start old) }
 
-module _ {width : ℕ} {ds : List ℕ} {start : ℕ} {old new : List ℕ} {to at : ℕ} (s : Pairing width ds start old new to at) where
-  pub pairing_room : {giant end : ℕ} → Diagonals width ds → at < length ds → RunFrom width ds at giant end → start + 2 * length (giants 65536 width ds) ≤ length old → to + 1 < length old
-  pairing_room {giant} {end} g l r h =
-      omega (arith, s.written.at_is, pairs_words_length 65536 width (take at ds), ap length (walked_giants g.planned s.walked l r), length-append (giants 65536 width (take at ds)) (giant ∷ []), giants_part 65536 width end ds)
+module _ {width : ℕ} {ds : List ℕ} {start : ℕ} {old new : List ℕ} {to : ℕ} {s t : Runs} {x : Run} (i : Going width ds s × Pairing width ds start old new to s.at) (n : NextRun s (Some x) t) (l : start + 2 * length (giants 65536 width ds) ≤ length old) where
+  run_here : RunFrom width ds s.at x.giant t.at
+  run_here = run_now i.0.2 n
 
-  pub pairing_more : {giant end : ℕ} → Diagonals width ds → at < length ds → RunFrom width ds at giant end → start + 2 * length (giants 65536 width ds) ≤ length old
-      → Pairing width ds start old (set (set new to at) (to + 1) (end - at)) (to + 2) end
-  pairing_more {giant} {end} g l r h =
+  pub pairing_room : to + 1 < length old
+  pairing_room =
+      omega (arith, l, i.1.written.at_is, pairs_words_length 65536 width (take s.at ds), ap length (walked_giants (going_diagonals i.0).planned i.1.walked (run_inside i.0.2 n) run_here), length-append (giants 65536 width (take s.at ds)) (x.giant ∷ []), giants_part 65536 width t.at ds)
+
+  pairs_written : Writing start (pairs_as_words (plan_pairs 65536 width (take t.at ds))) old (set (set new to s.at) (to + 1) (t.at - s.at)) (to + 2)
+  pairs_written =
       let two : to + 2 ≡ to + 1 + 1 = omega arith in
-      let one = writing_more s.written (omega (arith, pairing_room g l r h, s.written.len)) at in
-      let both = writing_more one (simp length-set (omega (arith, pairing_room g l r h, s.written.len))) (end - at) in
-      record {
-        walked = walked_more g.planned s.walked l r;
-        written = rw (two, walked_pairs g.planned s.walked l r, join_append (λ (c : ℕ × ℕ). c.0 ∷ c.1 ∷ []) (plan_pairs 65536 width (take at ds)) ((at, end - at) ∷ []), ← append_assoc (pairs_as_words (plan_pairs 65536 width (take at ds))) (at ∷ []) ((end - at) ∷ [])) both;
-      }
+      let one = writing_more i.1.written (omega (arith, pairing_room, i.1.written.len)) s.at in
+      let both = writing_more one (simp length-set (omega (arith, pairing_room, i.1.written.len))) (t.at - s.at) in
+      rw (two, walked_pairs (going_diagonals i.0).planned i.1.walked (run_inside i.0.2 n) run_here, join_append (λ (c : ℕ × ℕ). c.0 ∷ c.1 ∷ []) (plan_pairs 65536 width (take s.at ds)) ((s.at, t.at - s.at) ∷ []), ← append_assoc (pairs_as_words (plan_pairs 65536 width (take s.at ds))) (s.at ∷ []) ((t.at - s.at) ∷ [])) both
 
-  pub pairing_done : length ds ≤ at → Writing start (pairs_as_words (plan_pairs 65536 width ds)) old new to
-  pairing_done h = rw (← take_all at ds h) s.written
-
--- places in the list are small
-pub place_low : {width : ℕ} {ds : List ℕ} {at giant end : ℕ} → Diagonals width ds → RunFrom width ds at giant end → end ≤ 65536
-place_low g r = omega (arith, planned_length g.planned, r.run.inside)
+  pub pairing_more : Going width ds t × Pairing width ds start old (set (set new to x.start) (to + 1) (x.end - x.start)) (to + 2) t.at
+  pairing_more = (
+    going_on i.0 n,
+    record { walked = walked_more (going_diagonals i.0).planned i.1.walked (run_inside i.0.2 n) run_here; written = rw (n.run.1, n.run.2) pairs_written },
+  )
 
 -- ---- the baby step
 
@@ -278,9 +276,6 @@ pub record Dividing (width : ℕ) (ds : List ℕ) (common t : ℕ) : Type 0 wher
   pub room : t ≤ length ds
   pub so_far : common ≡ gcd_all (map (baby_of width) (take t ds))
   pub low : common < 65536
-
-pub dividing_none : (width : ℕ) (ds : List ℕ) → Dividing width ds 0 0
-dividing_none width ds = record { room = omega arith; so_far = refl; low = omega arith }
 
 module _ {width : ℕ} {ds : List ℕ} {common t : ℕ} (s : Dividing width ds common t) where
   pub dividing_more : {r : ℕ} → Diagonals width ds → t < length ds → r ≡ gcd_of (get_or ds t 0 % width) common → Dividing width ds r (t + 1)
@@ -306,10 +301,7 @@ module _ {width : ℕ} {ds : List ℕ} {common t : ℕ} (s : Dividing width ds c
         range = record { low = rw e (or_else_some common); high = omega (arith, e, or_else_low common 65536 s.low (omega arith)) };
       }
 
--- by the test for 0
-pub step_none : {c : ℕ} → c ≡ 0 → 1 ≡ or_else c 1
-step_none e = rw e
-
-pub step_some : (c : ℕ) → (c ≡ 0 → ⊥) → c ≡ or_else c 1
-step_some zero n = absurd (n refl)
-step_some (suc c) n = refl
+-- 1 where it is 0
+pub step_max : (c : ℕ) → max c 1 ≡ or_else c 1
+step_max zero = omega arith
+step_max (suc c) = omega arith

@@ -18,7 +18,7 @@ use Rattle.ring.specs.Laws.Vectors.{tabulate_cong, map_tabulate}
 use Rattle.linear_transformation.specs.Digits.{rot_of, digit, bits_of, leaf, level_rotation}
 use Rattle.linear_transformation.specs.declared.records.PairRecord.{PairRecord}
 use Rattle.linear_transformation.specs.Trees.{digits_of, leaves_of, there, Level, pairs_at, levels_of}
-use Rattle.linear_transformation.specs.Steps.Trees.{LargestIs, BitsAre, leaves_at, Blank, LeavesMarked, Climbed, Climbing, Heaped, Planted, odd_at, pair_at, heap_pairs, level_pairs, heap_level, heap_levels, heap_switches}
+use Rattle.linear_transformation.specs.Steps.Trees.{LargestIs, BitsAre, leaves_at, Blank, LeavesMarked, Climbed, Heaped, Planted, odd_at, pair_at, heap_pairs, level_pairs, heap_level, heap_levels, heap_switches}
 use Rattle.linear_transformation.specs.Steps.Records.{heap_records}
 use Rattle.linear_transformation.proofs.Writings.{no_marks}
 use Rattle.linear_transformation.specs.Laws.Trees.{there_zero, there_half, level_places, odds, odds_more, with_even, pairs_odds}
@@ -53,9 +53,6 @@ planted {slots} {step} {x} {r} {gs} {old} {new} a b m {p} q c =
     let same : leaves_at slots step r gs ≡ leaves_of ds = rw e (sym (ap (map (leaf r)) (map-map (digit slots step) (rot_of slots) gs) ∙ map-map (leaf r) (λ z. digit slots step (rot_of slots z)) gs)) in
     let k : Climbed (2 ^ r) old new = rw q at c in
     record { bits = sym e; positive = b.positive; small = b.small; heaped = rw same at (heaped m k) }
-
-pub climb_asked : {r p : ℕ} {leaves : List ℕ} {heap : List Bool} → LeavesMarked r leaves heap → r ≤ 16 → p ≡ 2 ^ r → Climbing p heap
-climb_asked {r} m h e = record { len = m.size; low = omega (arith, pow_mono {i = r} {j = 16} h) }
 
 -- ---- the levels of the heap
 

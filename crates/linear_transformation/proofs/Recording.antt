@@ -8,12 +8,12 @@ use Rattle.ring.specs.Vectors.{in_front, tabulate}
 use Rattle.ring.specs.Searches.{below}
 use Rattle.ring.specs.Laws.Below.{below_yes, below_no, below_before}
 use Rattle.linear_transformation.specs.declared.records.PairRecord.{PairRecord}
-use Rattle.linear_transformation.specs.Steps.Plans.{Writing}
 use Rattle.linear_transformation.specs.Steps.Trees.{odd_at, pair_at, heap_pairs, level_pairs}
 use Rattle.linear_transformation.specs.Steps.Records.{heap_records}
 use Rattle.linear_transformation.proofs.Heaps.{pairs_length}
 use Rattle.linear_transformation.proofs.Writings.{writing_none, writing_more, writing_then, writing_done}
 use Rattle.linear_transformation.proofs.Writing.{joined_more, joined_le}
+use Rattle.linear_transformation.specs.Steps.Tables.{Writing}
 
 -- ---- a level
 

@@ -38,9 +38,6 @@ product : (z : ℤ) (s : ℕ) → mag z ≤ 65536 → s ≤ 65536 → mag (z *�
 product (pos n) s h l = let m : n ≤ 65537 = omega arith in mul-le-mul m l
 product (negsuc n) s h l = let k : suc n ≤ 65537 = omega arith in let m : suc n * s ≤ 65537 * 65536 = mul-le-mul k l in le_trans (mag_neg (suc n * s)) m
 
-pub product_fits : (z : ℤ) (s : ℕ) → mag z ≤ 65536 → s ≤ 65536 → SFits w64 (z *ℤ pos s)
-product_fits z s h l = record { sfits = omega (arith, product z s h l) }
-
 -- ---- a level's digit
 
 zero_minus : (p : ℕ) → pos 0 -ℤ pos p ≡ neg_ℤ (pos p)
@@ -56,9 +53,6 @@ module _ (b i p : ℕ) (z : b ≤ 16) (l : i < b) (q : p ≡ 2 ^ i) where
 
   opposite_low : mag (neg_ℤ (pos p)) ≤ 65536
   opposite_low = omega (arith, mag_neg p, power_low)
-
-  pub opposite_fits : SFits w64 (pos 0 -ℤ to_z w64 p)
-  opposite_fits = rw opposite (small_fits (neg_ℤ (pos p)) opposite_low)
 
   pub level_top : i + 1 ≡ b → LevelDigit b i (record { 0 = to_z w64 (of_z w64 (pos 0 -ℤ to_z w64 p)) })
   unfolding level_digit

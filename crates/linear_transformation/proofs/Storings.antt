@@ -1,24 +1,19 @@
 -- The calls about stored offsets: the walk that tests them, refusals, plans and trees.
 -- Assumes nothing.
-use Prim.Native.Nat.{ℕ, ◌+◌, ◌-◌, ◌≤◌, ◌<◌, min}
+use Prim.Native.Nat.{ℕ, ◌≤◌, ◌<◌}
 use mathlib.Core.Path.{◌≡◌, refl, sym, ap, ◌∙◌, subst}
 use mathlib.Core.Bool.{Bool, true, false, true≢false}
 use mathlib.Core.List.{List, [], ◌∷◌, ◌++◌}
-use mathlib.Core.Logic.{⊎_elim}
-use native.Mathlib.Nat.{not-suc-le-zero, eq-or-lt_of_le}
-use native.Mathlib.Numerals.{add-one}
 use native.Mathlib.Omega.{arith}
 use borrow.Author.Tests.{le-leb, lt-leb, lt-ltb, le-ltb}
 use lib.Dec.{ltb}
-use lib.ListN.{length, get_or, take, drop, length-drop, drop_of_length-le}
-use lib.Seq.{take_all, take-nil}
+use lib.ListN.{length, get_or}
 use Rattle.ring.specs.Vectors.{in_front}
-use Rattle.std.specs.Prelude.{None, Some, Result, Ok, Err}
+use Rattle.std.specs.Prelude.{Option, None, Some, Result, Ok, Err}
 use Rattle.ring.specs.declared.refusal.Refusal.{Refusal}
-use Rattle.ring.specs.declared.refusal.Refusal.TheVariants.{Slots, NotAMap, OutOfRange, Room}
+use Rattle.ring.specs.declared.refusal.Refusal.TheVariants.{Room}
 use Rattle.ring.specs.Refusals.{first_refusal, outside}
-use Rattle.ring.specs.Laws.Answers.{no_refused, when_refused}
-use Rattle.ring.specs.Laws.Searches.{both, every_all, every_fails, lt_or_ge}
+use Rattle.ring.specs.Laws.Searches.{every_all, every_fails}
 use Rattle.ring.specs.Laws.Refusals.{first_later}
 use Rattle.linear_transformation.specs.declared.LinearTransformationStrategy.{LinearTransformationStrategy}
 use Rattle.linear_transformation.specs.declared.LinearTransformationStrategy.TheVariants.{Bsgs, BsgsPowersOfTwo, Direct}
@@ -27,21 +22,24 @@ use Rattle.linear_transformation.specs.declared.records.PairRecord.{PairRecord}
 use Rattle.linear_transformation.specs.declared.rotations.TreeSizes.{TreeSizes}
 use Rattle.linear_transformation.specs.Strategies.{width_outside}
 use Rattle.linear_transformation.specs.Plans.{width_of}
-use Rattle.linear_transformation.specs.Trees.{Tree, tree_switches}
+use Rattle.linear_transformation.specs.Trees.{Tree, tree_records, tree_switches}
 use Rattle.linear_transformation.specs.Schedules.{plan_babies, plan_words, plan_tree}
 use Rattle.linear_transformation.specs.Stored.{least_at, offset_fits, offsets_rise, stored_refusals, pair_count, stored_plan_refusal, StoredPlanWritten, PlanRecordsWritten}
-use Rattle.linear_transformation.specs.Calls.{tree_sizes}
-use Rattle.linear_transformation.specs.Steps.Plans.{WordsWritten}
-use Rattle.linear_transformation.specs.Steps.Trees.{Planted, heap_switches}
-use Rattle.linear_transformation.specs.Steps.Keys.{turns_each, Sizable, giants_of}
-use Rattle.linear_transformation.specs.Steps.Stored.{StoredJudged}
-use Rattle.linear_transformation.specs.Steps.Records.{heap_records, room_refusal, Grown}
+use Rattle.linear_transformation.specs.declared.sorted.Sorted.{Sorted}
+use Rattle.linear_transformation.specs.declared.tree.Tree.{Tree as Standing}
+use Rattle.linear_transformation.specs.Steps.Plans.{DiagonalsAccepted, WordsWritten}
+use Rattle.linear_transformation.specs.Steps.Trees.{Planted, TreeOf, heap_switches}
+use Rattle.linear_transformation.specs.Steps.Keys.{Sizable, Accepted, giants_of}
+use Rattle.linear_transformation.specs.Steps.Records.{heap_records}
 use Rattle.linear_transformation.specs.Laws.Plans.{width_positive}
 use Rattle.linear_transformation.specs.Laws.Stored.{rise_distinct}
-use Rattle.linear_transformation.proofs.Judgings.{none_of, some_of, still_refused}
-use Rattle.linear_transformation.proofs.Growth.{sizes, grown_accepted, grown_refused, records_told, records_refused}
-use Rattle.linear_transformation.proofs.PlanAnswers.{in_range_lem}
+use Rattle.linear_transformation.proofs.Judgings.{still_refused}
+use Rattle.linear_transformation.proofs.Growth.{sizes, records_refused}
+use Rattle.linear_transformation.proofs.PlanAnswers.{in_range_lem, words_same}
 use Rattle.linear_transformation.proofs.KeyAnswers.{plan_tree_lem}
+use Rattle.linear_transformation.proofs.Strategies.{powers}
+use Rattle.linear_transformation.proofs.Facts.{sizable}
+use Rattle.linear_transformation.specs.Steps.Strategies.{turns_each}
 
 -- ---- rising offsets
 
@@ -50,9 +48,6 @@ pub record Ascending (slots : ℕ) (ks : List ℕ) (next t : ℕ) : Type 0 where
   pub room : t ≤ length ks
   pub next_is : next ≡ least_at ks t
   pub so_far : (u : ℕ) → u < t → offset_fits slots ks u ≡ true
-
-pub ascending_none : (slots : ℕ) (ks : List ℕ) → Ascending slots ks 0 0
-ascending_none slots ks = record { room = omega arith; next_is = refl; so_far = λ u l. absurd (not-suc-le-zero l) }
 
 module _ {slots : ℕ} {ks : List ℕ} {next t : ℕ} (s : Ascending slots ks next t) where
   pub ascending_done : length ks ≤ t → true ≡ offsets_rise slots ks
@@ -75,54 +70,28 @@ module _ {slots : ℕ} {ks : List ℕ} {next t : ℕ} (s : Ascending slots ks ne
       unfolding offsets_rise
       ascending_high m = sym (every_fails (offset_fits slots ks) (length ks) t l (rw (le-leb (least_at ks t) (get_or ks t 0) high_enough, le-ltb (get_or ks t 0) slots (omega arith))))
 
-      pub ascending_more : k < slots → Ascending slots ks (k + 1) (t + 1)
-      ascending_more m =
-          let fits : offset_fits slots ks t ≡ true = both (le-leb (least_at ks t) (get_or ks t 0) high_enough) (lt-ltb (get_or ks t 0) slots (omega arith)) in
-          record {
-            room = omega arith;
-            next_is = rw (add-one t) (omega arith);
-            so_far = λ u j. ⊎_elim (λ (q : u ≡ t). rw q fits) (λ (q : u < t). s.so_far u q) (eq-or-lt_of_le (omega arith));
-          }
-
 -- ---- refusals
 
 module _ {slots : ℕ} {s : LinearTransformationStrategy} {ks : List ℕ} where
-  pub stored_slots : outside slots ≡ true → StoredJudged slots s ks (Err Slots)
-  stored_slots e = record { answer = rw e; accepted = λ h. no_refused h }
-
-  pub stored_offsets : outside slots ≡ false → offsets_rise slots ks ≡ false → StoredJudged slots s ks (Err NotAMap)
-  stored_offsets e f = record { answer = rw (e, f); accepted = λ h. no_refused h }
-
-  pub stored_width : outside slots ≡ false → offsets_rise slots ks ≡ true → width_outside s ≡ true → StoredJudged slots s ks (Err OutOfRange)
-  stored_width e f g = record { answer = rw (e, f, g); accepted = λ h. no_refused h }
-
-  pub stored_right : outside slots ≡ false → offsets_rise slots ks ≡ true → width_outside s ≡ false → StoredJudged slots s ks (Ok tt)
-  stored_right e f g =
+  pub stored_accepted : outside slots ≡ false → offsets_rise slots ks ≡ true → width_outside s ≡ false → Accepted slots s ks
+  stored_accepted e f g =
       let d = rise_distinct slots ks f in
-      record {
-        answer = rw (e, f, g);
-        accepted = λ h. record { slots_in_fact = in_range_lem e; width_in = g; planned = record { rises = d.rises; low = d.low; positive = width_positive s g } };
-      }
-
-  module _ {r : Result Unit Refusal} (j : StoredJudged slots s ks r) (ds : List (Bool × Refusal)) where
-    pub stored_first : {x : Refusal} → r ≡ Err x → first_refusal (stored_refusals slots s ks ++ ds) ≡ Some x
-    stored_first n = still_refused (stored_refusals slots s ks) ds (some_of j.answer n)
-
-    pub stored_later : r ≡ Ok tt → first_refusal (stored_refusals slots s ks ++ ds) ≡ first_refusal ds
-    stored_later e = first_later (stored_refusals slots s ks) ds (none_of j.answer e)
+      record { slots_in_fact = in_range_lem e; width_in = g; planned = record { rises = d.rises; low = d.low; positive = width_positive s g } }
 
 -- ---- plans
 
-module _ {slots : ℕ} {s : LinearTransformationStrategy} {ks : List ℕ} {r : Result Unit Refusal} (j : StoredJudged slots s ks r) {old : List ℕ} where
-  pub stored_plan_refused : {x : Refusal} → r ≡ Err x → StoredPlanWritten slots s ks old old (Err x)
+module _ {slots : ℕ} {s : LinearTransformationStrategy} {ks : List ℕ} {old : List ℕ} where
+  pub stored_plan_refused : {x : Refusal} → first_refusal (stored_refusals slots s ks) ≡ Some x → StoredPlanWritten slots s ks old old (Err x)
   stored_plan_refused n =
-      let q = stored_first j ((ltb (length old) (length (plan_words slots s ks)), Room) ∷ []) n in
+      let q = still_refused (stored_refusals slots s ks) ((ltb (length old) (length (plan_words slots s ks)), Room) ∷ []) n in
       record { answer = rw q; words = rw q }
 
-  pub stored_plan_written : {new : List ℕ} {a : Result PlanSizes Refusal} → r ≡ Ok tt → WordsWritten (plan_babies slots s ks) slots (width_of s) ks old new a → StoredPlanWritten slots s ks old new a
+  pub stored_plan_written : {n : ℕ} {t : LinearTransformationStrategy} {js new : List ℕ} {a : Result PlanSizes Refusal} → DiagonalsAccepted (stored_refusals slots s ks) slots s ks n t js
+      → WordsWritten (plan_babies n t js) n (width_of t) js old new a → StoredPlanWritten slots s ks old new a
   unfolding plan_words
-  stored_plan_written e w =
-      let q : stored_plan_refusal slots s ks old ≡ first_refusal ((ltb (length old) (length (plan_words slots s ks)), Room) ∷ []) = stored_later j ((ltb (length old) (length (plan_words slots s ks)), Room) ∷ []) e in
+  stored_plan_written k v =
+      let w = words_same k v in
+      let q : stored_plan_refusal slots s ks old ≡ first_refusal ((ltb (length old) (length (plan_words slots s ks)), Room) ∷ []) = first_later (stored_refusals slots s ks) ((ltb (length old) (length (plan_words slots s ks)), Room) ∷ []) k.none in
       record { answer = rw q w.answer; words = rw q w.words }
 
 -- ---- the records of a plan's tree
@@ -131,28 +100,54 @@ module _ {slots width : ℕ} {ds : List ℕ} (z : Sizable slots width ds) {heap 
   count_is : count ≡ tree_switches (plan_tree slots width ds)
   count_is = (sizes p c).switches ∙ ap tree_switches (plan_tree_lem z)
 
-  pub room_short : {room : ℕ} → room < count → Grown (room_refusal (plan_tree slots width ds) room) (plan_tree slots width ds) room heap (Err Room)
-  room_short l = grown_refused (rw (← count_is, lt-ltb _ _ l))
+  pub records_room : length (heap_records bits heap) ≡ count
+  unfolding tree_switches
+  records_room = sym ((sizes p c).switches ∙ ap length (sym (sizes p c).records_are))
 
-  pub tree_planted : {room : ℕ} → count ≤ room → Grown (room_refusal (plan_tree slots width ds) room) (plan_tree slots width ds) room heap (Ok (record { bits = bits; pairs = count }))
-  tree_planted {room} l =
-      let q : room_refusal (plan_tree slots width ds) room ≡ None = rw (← count_is, le-ltb _ _ l) in
-      subst (λ (t : Tree). Grown (room_refusal (plan_tree slots width ds) room) t room heap (Ok (record { bits = bits; pairs = count }))) (plan_tree_lem z) (grown_accepted (sizes p c) l q)
-
-module _ {slots w : ℕ} {gs : List ℕ} {r : Result Unit Refusal} (j : StoredJudged slots (BsgsPowersOfTwo w) gs r) (ps : List PairRecord) where
-  pub plan_refused : {x : Refusal} → r ≡ Err x → PlanRecordsWritten slots (BsgsPowersOfTwo w) gs ps ps (Err x)
-  plan_refused n = records_refused (stored_first j ((ltb (length ps) (pair_count slots (BsgsPowersOfTwo w) gs), Room) ∷ []) n) ps
-
-  module _ (e : r ≡ Ok tt) {heap : List Bool} {a : Result TreeSizes Refusal} (t : Grown (room_refusal (plan_tree slots w gs) (length ps)) (plan_tree slots w gs) (length ps) heap a) where
-    later : first_refusal (stored_refusals slots (BsgsPowersOfTwo w) gs ++ (ltb (length ps) (pair_count slots (BsgsPowersOfTwo w) gs), Room) ∷ []) ≡ room_refusal (plan_tree slots w gs) (length ps)
+  module _ (ps : List PairRecord) (n : first_refusal (stored_refusals slots (BsgsPowersOfTwo width) ds) ≡ None) where
+    later : first_refusal (stored_refusals slots (BsgsPowersOfTwo width) ds ++ (ltb (length ps) (pair_count slots (BsgsPowersOfTwo width) ds), Room) ∷ []) ≡ first_refusal ((ltb (length ps) count, Room) ∷ [])
     unfolding pair_count
-    later = stored_later j ((ltb (length ps) (pair_count slots (BsgsPowersOfTwo w) gs), Room) ∷ []) e
+    later = rw count_is (first_later (stored_refusals slots (BsgsPowersOfTwo width) ds) ((ltb (length ps) (tree_switches (plan_tree slots width ds)), Room) ∷ []) n)
 
-    pub plan_short : {x : Refusal} → a ≡ Err x → PlanRecordsWritten slots (BsgsPowersOfTwo w) gs ps ps (Err x)
-    plan_short {x} h = rw later (records_refused (when_refused (room_refusal (plan_tree slots w gs) (length ps)) (tree_sizes (plan_tree slots w gs)) x (sym h ∙ t.answer)) ps)
+    pub powers_short : length ps < count → PlanRecordsWritten slots (BsgsPowersOfTwo width) ds ps ps (Err Room)
+    powers_short l = records_refused (later ∙ rw (lt-ltb _ _ l)) ps
 
-    pub plan_told : {s : TreeSizes} {ps' : List PairRecord} → a ≡ Ok s → ps' ≡ in_front (heap_records s.bits heap) ps → PlanRecordsWritten slots (BsgsPowersOfTwo w) gs ps ps' (Ok (Some s))
-    plan_told h q = rw later (records_told t h q)
+    pub powers_told : {ps' : List PairRecord} → count ≤ length ps → ps' ≡ in_front (heap_records bits heap) ps → PlanRecordsWritten slots (BsgsPowersOfTwo width) ds ps ps' (Ok (Some (record { bits = bits; pairs = count })))
+    powers_told l q =
+        let none : first_refusal (stored_refusals slots (BsgsPowersOfTwo width) ds ++ (ltb (length ps) (pair_count slots (BsgsPowersOfTwo width) ds), Room) ∷ []) ≡ None = rw (later, le-ltb _ _ l) in
+        let t = sizes p c in
+        record {
+          answer = rw (none, t.bits ∙ ap (λ (x : Tree). x.bits) (plan_tree_lem z), count_is) refl;
+          records_are = rw none (q ∙ ap (λ (rs : List PairRecord). in_front rs ps) (t.records_are ∙ ap tree_records (plan_tree_lem z)));
+        }
+
+-- by the strategy
+pub plan_refused : (slots : ℕ) (s : LinearTransformationStrategy) (gs : List ℕ) (ps : List PairRecord) {x : Refusal} → turns_each s ≡ false → first_refusal (stored_refusals slots s gs) ≡ Some x → PlanRecordsWritten slots s gs ps ps (Err x)
+unfolding turns_each
+plan_refused slots (Bsgs w) gs ps e h = absurd (true≢false e)
+plan_refused slots (BsgsPowersOfTwo w) gs ps e h = records_refused (still_refused (stored_refusals slots (BsgsPowersOfTwo w) gs) ((ltb (length ps) (pair_count slots (BsgsPowersOfTwo w) gs), Room) ∷ []) h) ps
+plan_refused slots Direct gs ps e h = absurd (true≢false e)
+
+module _ {slots : ℕ} {s : LinearTransformationStrategy} {gs : List ℕ} (x : Sorted) (k : DiagonalsAccepted (stored_refusals slots s gs) slots s gs x.slots x.strategy x.ds.now) (e : turns_each s ≡ false) {t : Standing} (p : TreeOf x.slots (width_of x.strategy) (giants_of (width_of x.strategy) x.ds.now) t) {count : ℕ} (c : count ≡ heap_switches t.bits t.heap.now t.bits) where
+  powers_are : x.strategy ≡ BsgsPowersOfTwo (width_of x.strategy)
+  powers_are = powers (rw k.strategy_is e) refl
+
+  none_here : first_refusal (stored_refusals x.slots (BsgsPowersOfTwo (width_of x.strategy)) x.ds.now) ≡ None
+  none_here = subst (λ (q : LinearTransformationStrategy). first_refusal (stored_refusals x.slots q x.ds.now) ≡ None) powers_are (rw (k.slots_is, k.strategy_is, k.diagonals_are) k.none)
+
+  told_there : {ps ps' : List PairRecord} {r : Result (Option TreeSizes) Refusal} → PlanRecordsWritten x.slots (BsgsPowersOfTwo (width_of x.strategy)) x.ds.now ps ps' r → PlanRecordsWritten slots s gs ps ps' r
+  told_there {ps} {ps'} {r} w =
+      let v : PlanRecordsWritten x.slots x.strategy x.ds.now ps ps' r = subst (λ (q : LinearTransformationStrategy). PlanRecordsWritten x.slots q x.ds.now ps ps' r) (sym powers_are) w in
+      rw (k.slots_is, k.strategy_is, k.diagonals_are) at v
+
+  pub plan_short : (ps : List PairRecord) → length ps < count → PlanRecordsWritten slots s gs ps ps (Err Room)
+  plan_short ps l = told_there (powers_short (sizable x) p.planted c ps none_here l)
+
+  pub plan_room : length (heap_records t.bits t.heap.now) ≡ count
+  plan_room = records_room (sizable x) p.planted c
+
+  pub plan_told : (ps : List PairRecord) {ps' : List PairRecord} → count ≤ length ps → ps' ≡ in_front (heap_records t.bits t.heap.now) ps → PlanRecordsWritten slots s gs ps ps' (Ok (Some (record { bits = t.bits; pairs = count })))
+  plan_told ps l q = told_there (powers_told (sizable x) p.planted c ps none_here l q)
 
 -- where each rotation has its own key, nothing is written
 pub each_written : (slots : ℕ) (s : LinearTransformationStrategy) (gs : List ℕ) (ps : List PairRecord) → turns_each s ≡ true → PlanRecordsWritten slots s gs ps ps (Ok None)
@@ -160,23 +155,3 @@ unfolding turns_each
 each_written slots (Bsgs w) gs ps e = (refl, refl)
 each_written slots (BsgsPowersOfTwo w) gs ps e = absurd (true≢false (sym e))
 each_written slots Direct gs ps e = (refl, refl)
-
--- ---- a part of a slice
-
--- count words from `from` on, or as many as there are
-pub part_is : (xs : List ℕ) (from count start end : ℕ) → start ≡ min from (length xs) → end ≡ start + min count (length xs - start) → take (end - start) (drop start xs) ≡ take count (drop from xs)
-part_is xs from count start end e f = ⊎_elim inside outside (lt_or_ge from (length xs))
-  where
-    outside : length xs ≤ from → take (end - start) (drop start xs) ≡ take count (drop from xs)
-    outside h =
-        ap (take (end - start)) (drop_of_length-le xs {i = start} (omega (arith, e))) ∙ take-nil (end - start)
-        ∙ sym (ap (take count) (drop_of_length-le xs {i = from} h) ∙ take-nil count)
-
-    inside : from < length xs → take (end - start) (drop start xs) ≡ take count (drop from xs)
-    inside h =
-        let q : start ≡ from = omega (arith, e) in
-        rw q
-        (⊎_elim
-        (λ (l : count < length xs - from). let d : end - from ≡ count = omega (arith, f) in ap (λ (n : ℕ). take n (drop from xs)) d)
-        (λ (l : length xs - from ≤ count). take_all (end - from) (drop from xs) (omega (arith, f, length-drop from xs)) ∙ sym (take_all count (drop from xs) (omega (arith, length-drop from xs))))
-        (lt_or_ge count (length xs - from)))

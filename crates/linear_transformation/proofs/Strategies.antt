@@ -8,7 +8,7 @@ use Rattle.linear_transformation.specs.Plans.{width_of, babies, giants}
 use Rattle.linear_transformation.specs.Closures.{nonzeros}
 use Rattle.linear_transformation.specs.Schedules.{plan_babies, keys_per_rotation, plan_keys, giant_switches}
 use Rattle.linear_transformation.specs.Stored.{pair_count, step_of, bits_for}
-use Rattle.linear_transformation.specs.Steps.Keys.{turns_each}
+use Rattle.linear_transformation.specs.Steps.Strategies.{turns_each}
 
 powers_by : (s : LinearTransformationStrategy) → turns_each s ≡ false → s ≡ BsgsPowersOfTwo (width_of s)
 unfolding turns_each

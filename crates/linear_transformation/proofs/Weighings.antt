@@ -1,24 +1,28 @@
 -- The walks of `optimal_bsgs_giant_step`: what each loop keeps, a turn, and the end.
 -- Assumes nothing.
-use Prim.Native.Nat.{ℕ, zero, suc, ◌+◌, ◌-◌, ◌*◌, ◌/◌, ◌%◌, ◌≤◌, ◌<◌, ◌∣◌}
-use mathlib.Core.Path.{◌≡◌, refl, sym, ap, ◌∙◌}
+use Prim.Native.Nat.{ℕ, zero, suc, min, ◌+◌, ◌-◌, ◌*◌, ◌/◌, ◌%◌, ◌^◌, ◌≤◌, ◌<◌, ◌∣◌}
+use mathlib.Core.Path.{◌≡◌, refl, sym, ap, ap₂, ◌∙◌}
 use mathlib.Core.Bool.{Bool, true, false, ◌||◌, true≢false, or-true, or-false}
 use mathlib.Core.List.{List, [], ◌∷◌, ◌++◌, append-nil}
-use mathlib.Core.Logic.{⊎_elim}
-use native.Mathlib.Nat.{le_refl, le_of_lt, le_of_suc-le-suc, not-suc-le-zero, div-add-mod', dvd_refl, dvd-add, dvd-sub, dvd-mul_left, le_of_dvd}
+use mathlib.Core.Logic.{◌⊎◌, inl, inr, ⊎_elim}
+use native.Mathlib.Nat.{add-zero, le_refl, le_of_lt, le_of_suc-le-suc, not-suc-le-zero, div-add-mod', dvd_refl, dvd-add, dvd-sub, dvd-mul_left, le_of_dvd}
 use native.Mathlib.Numerals.{add-one}
 use native.Mathlib.Decide.{ℕ_discrete}
 use native.Mathlib.Omega.{arith}
 use borrow.Author.Tests.{eq-eqb, eqb-true, ne_eqb}
 use lib.Dec.{eqb}
 use lib.IntN.{ℤ}
-use lib.ListN.{length, get_or, set, take, replicate, length-set, length-append, length-replicate}
+use lib.ListN.{length, get_or, set, take, drop, replicate, length-set, length-append, length-replicate}
 use lib.Seq.{take-suc, take_all, get_or-set_same, get_or-set_other}
 use Rattle.ring.specs.Lists.{Each, Rising, some, among}
 use Rattle.ring.specs.Searches.{only, below}
 use Rattle.ring.specs.Laws.Lists.{each_then, each_at, each_append}
 use Rattle.ring.specs.Laws.Searches.{lt_or_ge}
 use Rattle.ring.specs.Laws.Below.{below_le, below_ext}
+use Rattle.std.proofs.Common.{Option, Some, Bor}
+use Rattle.std.specs.declared.slice.Windows.{Windows}
+use Rattle.std.specs.Slice.Iter.{windows_rest, windows_size, windows_steps}
+use Rattle.std.proofs.lemmas.Iterator.{window_more}
 use Rattle.std.specs.Ordering.{ord_max, nat_cmp}
 use Rattle.linear_transformation.specs.Plans.{baby_of, giant_of, giants, Planned, Distinct}
 use Rattle.ring.specs.Residues.{diagonals_of}
@@ -28,7 +32,7 @@ use Rattle.linear_transformation.specs.Steps.Widths.{Choice, Fresh, Weighed, Nar
 use Rattle.ring.specs.Laws.Members.{some_append, left, right, one_of, among_head, each_among}
 use Rattle.linear_transformation.specs.Laws.Plans.{planned, giant_baby, giant_le, baby_lt, giant_climbs}
 use Rattle.linear_transformation.specs.Laws.Runs.{Joins, giants_run}
-use Rattle.linear_transformation.specs.Laws.Widths.{distinct_planned, distinct_bound, LastLeast, last_first, last_yes, last_no, last_skip, gaps_positive, smallest_is, smallest_found, smallest_low, candidate_yes, candidate_is, best_is, cost_bound}
+use Rattle.linear_transformation.specs.Laws.Widths.{LastLeast, last_first, last_yes, last_no, last_skip, gaps_positive, smallest_is, smallest_found, smallest_low, candidate_yes, candidate_is, best_is, cost_bound}
 use Rattle.linear_transformation.proofs.Signs.{max_is}
 
 -- ---- the smallest gap
@@ -48,74 +52,76 @@ gap_place (x ∷ y ∷ zs) h a =
     (λ e. let r = gap_place (y ∷ zs) h e in (suc r.0, (omega (arith, r.1.0), r.1.1)))
     (one_of (eqb (y - x) h) (among h (gaps (y ∷ zs))) a)
 
--- the gap in front of place t
-module _ (ds : List ℕ) (t : ℕ) (r : Rising ds) (l : t < length ds) (u : 1 ≤ t) where
-  gap_there : among (get_or ds t 0 - get_or ds (t - 1) 0) (gaps ds) ≡ true
-  gap_there =
-      let e : suc (t - 1) ≡ t = omega arith in
-      let a : among (get_or ds (suc (t - 1)) 0 - get_or ds (t - 1) 0) (gaps ds) ≡ true = gap_at ds (t - 1) (omega arith) in
-      rw e at a
+-- of the gaps between neighbours, all but those that are left have been seen; at the start, where none has, the gap is wider than any
+pub record Narrowing (ds left : List ℕ) (size gap : ℕ) : Type 0 where
+  pub size_is : size ≡ 2
+  pub short : length left ≤ length ds
+  pub some_left : 1 ≤ length left
+  pub left_is : left ≡ drop (length ds - length left) ds
+  pub there : (65536 ≤ gap) ⊎ ((1 ≤ gap) × (among gap (gaps ds) ≡ true))
+  pub smallest : (i : ℕ) → suc i + length left ≤ length ds → gap ≤ get_or ds (suc i) 0 - get_or ds i 0
 
-  pub gap_positive : 1 ≤ get_or ds t 0 - get_or ds (t - 1) 0
-  gap_positive = each_among (λ g. 1 ≤ g) (gaps ds) (gaps_positive ds r) (get_or ds t 0 - get_or ds (t - 1) 0) gap_there
+module _ {ds : List ℕ} (d : Distinct 65536 ds) (s t : Windows ℕ) {r : Option (Bor (List ℕ))} (w : Bor (List ℕ)) {gap : ℕ} (n : Narrowing ds (windows_rest s) (windows_size s) gap) (is : r ≡ Some w) (p : windows_steps s r t) where
+  abbrev place : ℕ
+  place = length ds - length (windows_rest s)
 
-  pub gap_rises : get_or ds (t - 1) 0 ≤ get_or ds t 0
-  gap_rises = omega (arith, gap_positive)
+  abbrev step : ℕ
+  step = get_or w.now 1 0 - get_or w.now 0 0
 
--- the smallest gap in front of the places before t
-pub record Narrowing (ds : List ℕ) (gap t : ℕ) : Type 0 where
-  pub room : t ≤ length ds
-  pub behind : 2 ≤ t
-  pub positive : 1 ≤ gap
-  pub there : among gap (gaps ds) ≡ true
-  pub smallest : (i : ℕ) → suc i < t → gap ≤ get_or ds (suc i) 0 - get_or ds i 0
+  taken : (length (windows_rest t) + 1 ≡ length (windows_rest s)) × (windows_rest t ≡ drop (length ds - length (windows_rest t)) ds) × (windows_size s ≤ length (windows_rest s))
+      × ((k : ℕ) (d : ℕ) → k < windows_size s → get_or w.now k d ≡ get_or ds (place + k) d)
+  taken = window_more ds s t r w is p (omega (arith, n.size_is)) n.short n.left_is
 
-pub narrowing_first : (ds : List ℕ) → Distinct 65536 ds → 2 ≤ length ds → Narrowing ds (get_or ds 1 0 - get_or ds 0 0) 2
-narrowing_first ds d l =
-    record {
-      room = l;
-      behind = le_refl 2;
-      positive = gap_positive ds 1 d.rises l (le_refl 1);
-      there = gap_there ds 1 d.rises l (le_refl 1);
-      smallest = λ i u. let e : i ≡ 0 = omega arith in rw e (le_refl (get_or ds 1 0 - get_or ds 0 0));
-    }
+  inside : suc place < length ds
+  inside = omega (arith, taken.2, n.size_is, n.short)
 
-module _ {ds : List ℕ} {gap t : ℕ} (s : Narrowing ds gap t) (d : Distinct 65536 ds) (l : t < length ds) where
-  -- no gap so far is below h, and neither is the next
-  so_small : (h : ℕ) → h ≤ gap → h ≤ get_or ds t 0 - get_or ds (t - 1) 0 → (i : ℕ) → suc i < t + 1 → h ≤ get_or ds (suc i) 0 - get_or ds i 0
-  so_small h a b i u =
-      ⊎_elim
-      (λ m. omega (arith, s.smallest i m))
-      (λ m. let e : t ≡ suc i = omega arith in let f : t - 1 ≡ i = omega arith in rw (← e, ← f) b)
-      (lt_or_ge (suc i) t)
+  first_is : get_or w.now 0 0 ≡ get_or ds place 0
+  first_is = taken.3 0 0 (omega (arith, n.size_is)) ∙ ap (λ k. get_or ds k 0) (add-zero place)
 
-  pub narrowing_yes : get_or ds t 0 - get_or ds (t - 1) 0 < gap → Narrowing ds (get_or ds t 0 - get_or ds (t - 1) 0) (t + 1)
-  narrowing_yes h =
-      let b : 1 ≤ t = omega (arith, s.behind) in
+  second_is : get_or w.now 1 0 ≡ get_or ds (suc place) 0
+  second_is = taken.3 1 0 (omega (arith, n.size_is)) ∙ ap (λ k. get_or ds k 0) (add-one place)
+
+  step_is : step ≡ get_or ds (suc place) 0 - get_or ds place 0
+  step_is = ap₂ ◌-◌ second_is first_is
+
+  step_there : among step (gaps ds) ≡ true
+  step_there = ap (λ g. among g (gaps ds)) step_is ∙ gap_at ds place inside
+
+  step_positive : 1 ≤ step
+  step_positive = each_among (λ g. 1 ≤ g) (gaps ds) (gaps_positive ds d.rises) step step_there
+
+  step_low : step < 65536
+  step_low = omega (arith, second_is, each_at (λ k. k < 65536) ds 0 d.low (suc place) inside)
+
+  pub pair_rises : get_or w.now 0 0 ≤ get_or w.now 1 0
+  pair_rises = omega (arith, step_positive)
+
+  pub narrowing_more : {m : ℕ} → m ≡ min gap step → Narrowing ds (windows_rest t) (windows_size t) m
+  narrowing_more {m} e =
       record {
-        room = omega arith;
-        behind = omega (arith, s.behind);
-        positive = gap_positive ds t d.rises l b;
-        there = gap_there ds t d.rises l b;
-        smallest = so_small (get_or ds t 0 - get_or ds (t - 1) 0) (le_of_lt h) (le_refl (get_or ds t 0 - get_or ds (t - 1) 0));
+        size_is = p.0 ∙ n.size_is;
+        short = omega (arith, taken.0, n.short);
+        some_left = omega (arith, taken.0, taken.2, n.size_is);
+        left_is = taken.1;
+        there = inr (⊎_elim
+            (λ (h : step < gap). let q : m ≡ step = omega arith in rw q (step_positive, step_there))
+            (λ (h : gap ≤ step). let q : m ≡ gap = omega arith in rw q (⊎_elim (λ v. absurd (omega (arith, step_low))) (λ v. v) n.there))
+            (lt_or_ge step gap));
+        smallest = λ i h. ⊎_elim
+            (λ (l : i < place). omega (arith, n.smallest i (omega (arith, n.short))))
+            (λ (l : place ≤ i). let q : i ≡ place = omega (arith, taken.0, n.short) in rw q (omega (arith, step_is)))
+            (lt_or_ge i place);
       }
 
-  pub narrowing_no : gap ≤ get_or ds t 0 - get_or ds (t - 1) 0 → Narrowing ds gap (t + 1)
-  narrowing_no h =
-      record {
-        room = omega arith;
-        behind = omega (arith, s.behind);
-        positive = s.positive;
-        there = s.there;
-        smallest = so_small gap (le_refl gap) h;
-      }
-
-pub narrowing_done : {ds : List ℕ} {gap t : ℕ} → Narrowing ds gap t → length ds ≤ t → Narrowest ds gap
-narrowing_done {ds} {gap} s h =
+pub narrowing_done : {ds left : List ℕ} {size gap : ℕ} → Distinct 65536 ds → 2 ≤ length ds → Narrowing ds left size gap → length left < size → Narrowest ds gap
+narrowing_done {ds} {left} {gap = gap} d l n h =
+    let v : (1 ≤ gap) × (among gap (gaps ds) ≡ true) =
+    ⊎_elim (λ w. absurd (omega (arith, n.smallest 0 (omega (arith, n.size_is)), each_at (λ k. k < 65536) ds 0 d.low 1 l))) (λ w. w) n.there
+    in
     record {
-      positive = s.positive;
-      there = s.there;
-      smallest = λ g a. let r = gap_place ds g a in omega (arith, s.smallest r.0 (omega (arith, r.1.0)), r.1.1);
+      positive = v.0;
+      there = v.1;
+      smallest = λ g a. let r = gap_place ds g a in omega (arith, n.smallest r.0 (omega (arith, r.1.0, n.size_is)), r.1.1);
     }
 
 -- ---- the first t diagonals
@@ -412,13 +418,22 @@ no_stamps (suc n) (suc b) = no_stamps n b
 pub fresh_none : (n : ℕ) {gap : ℕ} → n ≡ 65536 → 1 ≤ gap → Fresh gap (replicate n 0)
 fresh_none n e l = record { size = length-replicate n 0 ∙ e; low = λ b. omega (arith, no_stamps n b) }
 
--- the last of the cheapest candidates below a width, the next multiple of the gap
+-- best is the last of the cheapest candidates below a width, and costs twice the least
+pub record Chosen (slots : ℕ) (ds : List ℕ) (best least width : ℕ) : Type 0 where
+  pub half : cost slots ds best ≡ 2 * least
+  pub last : LastLeast (candidate slots ds) (cost slots ds) width best
+
+-- nothing is chosen yet: there is no candidate below the width, and every weight that a word holds is at most the least
+pub record Unchosen (slots : ℕ) (ds : List ℕ) (least width : ℕ) : Type 0 where
+  pub wide : 2 ^ 32 ≤ least + 1
+  pub none : (v : ℕ) → v < width → candidate slots ds v ≡ true → ⊥
+
+-- a width, which is a multiple of the gap, and the choice among the candidates below it
 pub record Choosing (slots : ℕ) (ds : List ℕ) (gap : ℕ) (stamps : List ℕ) (best least width : ℕ) : Type 0 where
   pub behind : gap ≤ width
   pub multiple : gap ∣ width
   pub fresh : Fresh width stamps
-  pub half : cost slots ds best ≡ 2 * least
-  pub last : LastLeast (candidate slots ds) (cost slots ds) width best
+  pub choice : Unchosen slots ds least width ⊎ Chosen slots ds best least width
 
 module _ {slots : ℕ} {ds : List ℕ} {gap : ℕ} (c : Choice slots ds gap) where
   pub gap_low : gap < slots
@@ -450,50 +465,52 @@ module _ {slots : ℕ} {ds : List ℕ} {gap : ℕ} (c : Choice slots ds gap) whe
   stays_fresh : {w r : ℕ} {stamps : List ℕ} → Weighed ds w stamps r → Fresh (w + gap) stamps
   stays_fresh h = record { size = h.size; low = λ b. omega (arith, h.low b, c.narrowest.positive) }
 
-  pub diagonals_at : (w : ℕ) → gap ≤ w → w < slots → Diagonals w ds
-  diagonals_at w a l = record { planned = distinct_planned (distinct_bound c.distinct c.range.high) w (omega (arith, c.narrowest.positive)); narrow = omega (arith, c.range.high) }
-
-  pub choosing_first : {stamps : List ℕ} {r : ℕ} → Weighed ds gap stamps r → Choosing slots ds gap stamps gap r (2 * gap)
-  choosing_first h =
-      let e : 2 * gap ≡ gap + gap = omega arith in
-      record {
-        behind = omega arith;
-        multiple = dvd-mul_left gap 2;
-        fresh = rw e (stays_fresh h);
-        half = half_is (le_refl gap) h;
-        last = rw e (last_skip (last_first (is_candidate gap (le_refl gap) (dvd_refl gap) gap_low) none_before) (gap + gap) (omega (arith, c.narrowest.positive)) (none_between gap (dvd_refl gap)));
-      }
+  pub choosing_none : {stamps : List ℕ} {least : ℕ} → Fresh gap stamps → 2 ^ 32 ≤ least + 1 → Choosing slots ds gap stamps gap least gap
+  choosing_none f w =
+      record { behind = le_refl gap; multiple = dvd_refl gap; fresh = f; choice = inl (record { wide = w; none = none_before }) }
 
   module _ {stamps stamps' : List ℕ} {best least width weight : ℕ} (s : Choosing slots ds gap stamps best least width) (l : width < slots) (h : Weighed ds width stamps' weight) where
+    here : candidate slots ds width ≡ true
+    here = is_candidate width s.behind s.multiple l
+
+    -- the width is looked at, and the next candidate is a gap away
+    next : {best' least' : ℕ} → cost slots ds best' ≡ 2 * least' → LastLeast (candidate slots ds) (cost slots ds) (width + 1) best' → Choosing slots ds gap stamps' best' least' (width + gap)
+    next e q =
+        record {
+          behind = omega (arith, s.behind);
+          multiple = dvd-add gap s.multiple (dvd_refl gap);
+          fresh = stays_fresh h;
+          choice = inr (record { half = e; last = last_skip q (width + gap) (omega (arith, c.narrowest.positive)) (none_between width s.multiple) });
+        }
+
     pub choosing_yes : weight ≤ least → Choosing slots ds gap stamps' width weight (width + gap)
     choosing_yes u =
-        record {
-          behind = omega (arith, s.behind);
-          multiple = dvd-add gap s.multiple (dvd_refl gap);
-          fresh = stays_fresh h;
-          half = half_is s.behind h;
-          last = last_skip (last_yes s.last (is_candidate width s.behind s.multiple l) (omega (arith, s.half, half_is s.behind h))) (width + gap) (omega (arith, c.narrowest.positive)) (none_between width s.multiple);
-        }
+        next (half_is s.behind h)
+        (⊎_elim (λ (n : Unchosen slots ds least width). last_first here n.none) (λ (q : Chosen slots ds best least width). last_yes q.last here (omega (arith, q.half, half_is s.behind h))) s.choice)
 
-    pub choosing_no : least < weight → Choosing slots ds gap stamps' best least (width + gap)
-    choosing_no u =
-        record {
-          behind = omega (arith, s.behind);
-          multiple = dvd-add gap s.multiple (dvd_refl gap);
-          fresh = stays_fresh h;
-          half = s.half;
-          last = last_skip (last_no s.last (omega (arith, s.half, half_is s.behind h))) (width + gap) (omega (arith, c.narrowest.positive)) (none_between width s.multiple);
-        }
+    pub choosing_no : weight < 2 ^ 32 → least < weight → Choosing slots ds gap stamps' best least (width + gap)
+    choosing_no w u =
+        ⊎_elim
+        (λ (n : Unchosen slots ds least width). absurd (omega (arith, n.wide)))
+        (λ (q : Chosen slots ds best least width). next q.half (last_no q.last (omega (arith, q.half, half_is s.behind h))))
+        s.choice
 
-  pub choosing_done : {stamps : List ℕ} {best least width : ℕ} → Choosing slots ds gap stamps best least width → slots ≤ width → best ≡ best_width slots ds
-  choosing_done {best} s h =
+  best_chosen : {best least width : ℕ} → slots ≤ width → Chosen slots ds best least width → best ≡ best_width slots ds
+  best_chosen {best} h q =
       sym (best_is slots ds best c.several
       (record {
-        within = (candidate_is slots ds best s.last.is).low;
-        is = s.last.is;
-        least = λ v u e. s.last.least v (omega arith) e;
-        last = λ v k u e. s.last.last v k (omega arith) e;
+        within = (candidate_is slots ds best q.last.is).low;
+        is = q.last.is;
+        least = λ v u e. q.last.least v (omega arith) e;
+        last = λ v k u e. q.last.last v k (omega arith) e;
       }))
+
+  pub choosing_done : {stamps : List ℕ} {best least width : ℕ} → Choosing slots ds gap stamps best least width → slots ≤ width → best ≡ best_width slots ds
+  choosing_done {least = least} {width = width} s h =
+      ⊎_elim
+      (λ (n : Unchosen slots ds least width). absurd (n.none gap (omega (arith, gap_low)) (is_candidate gap (le_refl gap) (dvd_refl gap) gap_low)))
+      (λ q. best_chosen h q)
+      s.choice
 
 -- ---- the diagonals that indexes name
 

@@ -14,7 +14,7 @@ use lib.ListN.{length, set, take, drop, length-set, length-append, take-append-d
 use lib.Seq.{length-take-le, take_at}
 use lib.IntN.{pos, ◌*ℤ◌}
 use Rattle.ring.specs.Lists.{join}
-use Rattle.ring.specs.Vectors.{tabulate, in_front, Behind}
+use Rattle.ring.specs.Vectors.{tabulate, in_front}
 use Rattle.ring.specs.Searches.{below}
 use Rattle.ring.specs.Laws.Below.{below_no, length_below_yes}
 use Rattle.ring.specs.Laws.Lists.{join_append, length_join}
@@ -92,9 +92,6 @@ module _ {slots step b : ℕ} {heap : List Bool} {old new : List ℕ} {at i : �
         at_is = omega (arith, s.at_is);
       }
 
-  pub levelling_done : b ≤ i → new ≡ in_front (level_words (heap_levels slots step b heap b)) old
-  levelling_done l = let e : i ≡ b = omega (arith, s.room) in s.so_far ∙ ap (λ (x : ℕ). in_front (level_words (heap_levels slots step b heap x)) old) e
-
 -- ---- keys
 
 abbrev keys_up_to : ℕ → ℕ → ℕ → List Bool → ℕ → List ℕ
@@ -171,14 +168,6 @@ module _ {slots step b : ℕ} {heap : List Bool} {at : ℕ} {old new : List ℕ}
   writing_no e =
       let w = keys_no slots step b heap i (sym (q) ∙ e) in
       record { room = omega arith; so_far = rw w s.so_far; len = s.len; to_is = rw w s.to_is }
-
-pub writing_done : {slots step b : ℕ} {heap : List Bool} {at : ℕ} {old new : List ℕ} {to i : ℕ} → KeyWriting slots step b heap at old new to i → b ≤ i → Behind at (keys_of (heap_levels slots step b heap b)) old new to
-writing_done {slots} {step} {b} {heap} {at} {old} {new} {to} {i} s l =
-    let e : i ≡ b = omega (arith, s.room) in
-    record {
-      is = s.so_far ∙ ap (λ (x : ℕ). in_front (take at old ++ keys_up_to slots step b heap x) old) e;
-      end_is = s.to_is ∙ ap (λ (x : ℕ). at + length (keys_up_to slots step b heap x)) e;
-    }
 
 -- ---- a level's rotation
 

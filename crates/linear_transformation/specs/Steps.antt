@@ -7,3 +7,6 @@ pub mod Trees
 pub mod Records
 pub mod Widths
 pub mod Stored
+pub mod Tables
+pub mod Rising
+pub mod Strategies

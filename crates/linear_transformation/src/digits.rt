@@ -42,6 +42,7 @@ pub fn baby_multiple(baby: i64, baby_step: usize) -> Result<usize, Refusal>
 
 // j of the rotation j·step; where the step divides slots, the j of least magnitude, half the period
 // being negative.
+// Kept: no conversion: a quotient, from which a period is taken or not.
 pub(crate) fn digit_of(rot: Rot, step: u32, slots: u32) -> Digit
     requires { Digitable slots step rot.0 }
     ensures { result ≡ digit slots step rot }

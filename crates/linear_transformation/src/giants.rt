@@ -1,56 +1,34 @@
 // The tree over a list of giants, its keys and its switches.
-ghost use Rattle.std.specs.Prelude.{◌≡◌, ◌<◌, ◌≤◌, ◌^◌, length};
+ghost use Rattle.std.specs.Prelude.{◌≡◌, ◌<◌, ◌≤◌, ◌^◌, length, MatchResult, not, false, Some};
 ghost use Rattle.std.specs.Int.Signed.{mag};
+ghost use Rattle.ring.specs.Lists.{some};
+ghost use Rattle.ring.specs.Divisors.{divides};
+ghost use Rattle.ring.specs.Residues.{residue_of};
 ghost use Rattle.ring.specs.Vectors.{in_front};
 ghost use Rattle.ring.specs.Refusals.{first_refusal};
 ghost use Rattle.ring.specs.Answers.{answered};
 ghost use Rattle.linear_transformation.specs.declared.rotations.BsgsRotations.TheVariants.{PowersOfTwo};
-ghost use Rattle.linear_transformation.specs.Digits.{leaf};
-ghost use Rattle.linear_transformation.specs.Trees.{tree_keys, tree_switches};
-ghost use Rattle.linear_transformation.specs.Listed.{giant_refusals, list_tree, giant_keys_of, giant_switches_of};
+ghost use Rattle.linear_transformation.specs.Listed.{giant_refusals, giant_keys_of, giant_switches_of};
 ghost use Rattle.linear_transformation.specs.Calls.{ListWritten, TreeWritten};
-ghost use Rattle.linear_transformation.specs.Steps.Records.{ListGrown};
-ghost use Rattle.linear_transformation.specs.Steps.Trees.{Stepped, Listing, AreMultiples, GiantsJudged, OneGiant, DigitIs, LargestIs, BitsAre, LeafAsked, LeafIs, LeavesAsked, leaves_at, Blank, LeavesMarked, Planted};
+ghost use Rattle.linear_transformation.specs.Steps.Numbers.{Stepped};
+ghost use Rattle.linear_transformation.specs.Steps.Trees.{OneGiant, DigitIs, LargestIs, BitsAre, LeafAsked, LeafIs, leaves_at, Blank, LeavesMarked, TreeOf, GiantsAccepted};
 
 use crate::babies::count_nonzeros;
 use crate::digits::{Digit, Rot, digit_of};
-use crate::heap::{climb, keys_count, power, tree_size, write_keys, write_levels};
-use crate::records::{PairRecord, write_records};
-use crate::rotations::{BsgsRotations, TreeSizes, check_steps};
+use crate::heap::{climb, power};
+use crate::records::PairRecord;
+use crate::rotations::{BsgsRotations, TreeSizes, check_numbers};
+use crate::tree::Tree;
 use ring::Refusal;
 
-// Whether every giant is a multiple of the step, modulo slots.
-// Kept: with `all`, `search (rules, chains)` does not prove `returns`.
-fn are_multiples(step: u32, slots: u32, giants: &[i64]) -> bool
-    requires { Stepped slots step }
-    ensures { AreMultiples slots step giants.now result }
-{
-    for &giant in giants {
-        if ring::residue(giant, slots) % step != 0 {
-            return false;
-        }
-    }
-    true
-}
-
-// Refuses steps outside 1..=65536 and giants that are no multiples of the giant step.
-fn check_giants(
-    baby_step: usize,
-    giant_step: usize,
-    slots: usize,
-    giants: &[i64],
-) -> Result<(), Refusal>
-    ensures { GiantsJudged baby_step giant_step slots giants.now result }
-{
-    check_steps(BsgsRotations::PowersOfTwo {
-        baby_step: baby_step,
-        giant_step: giant_step,
-        slots: slots,
-    })?;
-    if !are_multiples(giant_step as u32, slots as u32, giants) {
-        return Err(Refusal::Giant);
-    }
-    Ok(())
+// Giants that are multiples of a step, modulo slots.
+#[derive(Clone, Copy)]
+struct GiantList<'a> {
+    giants: &'a [i64],
+    step: u32,
+    slots: u32,
+    ghost stepped: { Stepped slots step },
+    ghost multiples: { some (λ z. not (divides step (residue_of z slots))) giants.now ≡ false },
 }
 
 pub(crate) fn digit_at(giant: i64, step: u32, slots: u32) -> Digit
@@ -69,18 +47,6 @@ pub(crate) fn magnitude(digit: Digit) -> u32
     digit.0.max(-1 - digit.0) as u32
 }
 
-// The largest magnitude of the giants' digits.
-fn largest_digit(step: u32, slots: u32, giants: &[i64]) -> u32
-    requires { Listing slots step giants.now }
-    ensures { LargestIs slots step giants.now result }
-{
-    let mut x = 0;
-    for &giant in giants {
-        x = x.max(magnitude(digit_at(giant, step, slots)));
-    }
-    x
-}
-
 // b of digits whose largest magnitude is x: one more than the bits of x.
 pub(crate) fn bits_for(x: u32) -> u32
     requires { x < 2 ^ 15 }
@@ -97,70 +63,94 @@ pub(crate) fn leaf_at(giant: i64, step: u32, slots: u32, bits: u32) -> u32
     ring::residue(digit_at(giant, step, slots).0, power(bits))
 }
 
-// Kept: there is no heap memory, so the nodes stand in a table of fixed size, and the tree's b bounds those that are looked at.
-fn mark_leaves(bits: u32, step: u32, slots: u32, giants: &[i64], heap: &mut [bool; 131072])
-    requires leaves_asked { LeavesAsked slots step bits giants.now }
-    requires blank { Blank heap.old }
-    ensures { LeavesMarked bits (leaves_at slots step bits giants.now) heap.new }
+// Whether every giant is a multiple of the step, modulo slots.
+// Kept: a test, no switch, and no number for a kind.
+fn are_multiples(step: u32, slots: u32, giants: &[i64]) -> bool
+    requires { Stepped slots step }
+    ensures { result ≡ not (some (λ z. not (divides step (residue_of z slots))) giants.now) }
 {
-    let size = power(bits) as usize;
-    for &giant in giants {
-        let l = leaf_at(giant, step, slots, bits) as usize;
-        heap[size + l] = true;
-    }
+    giants
+        .iter()
+        .all(|&giant| ring::residue(giant, slots) % step == 0)
 }
 
-// One word a giant, in the list's order.
-fn write_leaves(bits: u32, step: u32, slots: u32, giants: &[i64], leaves: &mut [u32])
-    requires leaves_asked { LeavesAsked slots step bits giants.now }
-    requires giants_in_bounds { length giants.now ≤ length leaves.old }
-    ensures { leaves.new ≡ in_front (leaves_at slots step bits giants.now) leaves.old }
-{
-    for (t, &giant) in giants.iter().enumerate() {
-        leaves[t] = leaf_at(giant, step, slots, bits);
+impl<'a> GiantList<'a> {
+    // Refuses steps outside 1..=65536 and giants that are no multiples of the giant step.
+    fn accept(
+        baby_step: usize,
+        giant_step: usize,
+        slots: usize,
+        giants: &'a [i64],
+    ) -> Result<GiantList<'a>, Refusal>
+        ensures { MatchResult result
+            (λ list. GiantsAccepted baby_step giant_step slots giants.now list.step list.slots list.giants.now)
+            (λ e. first_refusal (giant_refusals (PowersOfTwo baby_step giant_step slots) giants.now) ≡ Some e) }
+    {
+        check_numbers(baby_step, giant_step, slots)?;
+        let step = giant_step as u32;
+        let slots = slots as u32;
+        if !are_multiples(step, slots, giants) {
+            return Err(Refusal::Giant);
+        }
+        Ok(GiantList {
+            giants,
+            step,
+            slots,
+        })
     }
-}
 
-// Marks the nodes of the tree over the giants, and gives b.
-// Kept: `plant_plan` takes its giants from runs of an index; an iterator of giants, walked twice, would be no plainer.
-fn plant(step: u32, slots: u32, giants: &[i64], heap: &mut [bool; 131072]) -> u32
-    requires listing { Listing slots step giants.now }
-    requires blank { Blank heap.old }
-    ensures { Planted slots step giants.now heap.new result }
-{
-    let bits = bits_for(largest_digit(step, slots, giants));
-    mark_leaves(bits, step, slots, giants, heap);
-    climb(power(bits) as usize, heap);
-    bits
-}
-
-// The tree of a list of giants with powers of two, in the heap, where `room` records are lent: b, the number
-// of pairs, and in front of the buffers one word a giant (its leaf) and two a level (its rotation and its
-// number of pairs). Refuses as `giant_tree`.
-fn grow(
-    baby_step: usize,
-    giant_step: usize,
-    slots: usize,
-    giants: &[i64],
-    leaves: &mut [u32],
-    levels: &mut [u32],
-    room: usize,
-    heap: &mut [bool; 131072],
-) -> Result<TreeSizes, Refusal>
-    requires { Blank heap.old }
-    ensures { ListGrown baby_step giant_step slots giants.now leaves.old leaves.new levels.old levels.new room heap.new result }
-{
-    check_giants(baby_step, giant_step, slots, giants)?;
-    let step = giant_step as u32;
-    let n = slots as u32;
-    let bits = plant(step, n, giants, heap);
-    let pairs = tree_size(bits, heap);
-    if leaves.len() < giants.len() || levels.len() < 2 * bits as usize || room < pairs {
-        return Err(Refusal::Room);
+    // The largest magnitude of the giants' digits.
+    fn largest_digit(&self) -> u32
+        ensures { LargestIs self.now.slots self.now.step self.now.giants.now result }
+    {
+        let mut x = 0;
+        for &giant in self.giants {
+            x = x.max(magnitude(digit_at(giant, self.step, self.slots)));
+        }
+        x
     }
-    write_leaves(bits, step, n, giants, leaves);
-    write_levels(bits, step, n, heap, levels);
-    Ok(TreeSizes { bits, pairs })
+
+    // Kept: there is no heap memory, so the nodes stand in a table of fixed size, and the tree's b bounds those that are looked at.
+    fn mark_leaves(&self, bits: u32, heap: &mut [bool; 131072])
+        requires bits_bound { bits ≤ 16 }
+        requires blank { Blank heap.old }
+        ensures { LeavesMarked bits (leaves_at self.now.slots self.now.step bits self.now.giants.now) heap.new }
+    {
+        let size = power(bits) as usize;
+        for &giant in self.giants {
+            let l = leaf_at(giant, self.step, self.slots, bits) as usize;
+            heap[size + l] = true;
+        }
+    }
+
+    // One word a giant, in the list's order.
+    // Kept: b goes by alone here and to the two functions that mark leaves, since those make what a tree is made of.
+    fn write_leaves(&self, bits: u32, leaves: &mut [u32])
+        requires bits_bound { bits ≤ 16 }
+        requires giants_in_bounds { length self.now.giants.now ≤ length leaves.old }
+        ensures { leaves.new ≡ in_front (leaves_at self.now.slots self.now.step bits self.now.giants.now) leaves.old }
+    {
+        for (t, &giant) in self.giants.iter().enumerate() {
+            leaves[t] = leaf_at(giant, self.step, self.slots, bits);
+        }
+    }
+
+    // The tree over the giants; its nodes are marked in the heap.
+    // Kept: `Sorted::plant` takes its giants from runs of an index; an iterator of giants, walked twice, would be no plainer.
+    fn plant<'h>(&self, heap: &'h mut [bool; 131072]) -> Tree<'h>
+        requires { Blank heap.old }
+        ensures { TreeOf self.now.slots self.now.step self.now.giants.now result }
+    {
+        let bits = bits_for(self.largest_digit());
+        self.mark_leaves(bits, heap);
+        climb(power(bits) as usize, heap);
+        Tree {
+            bits,
+            step: self.step,
+            slots: self.slots,
+            heap,
+        }
+    }
 }
 
 // The tree over the giants: b, the number of pairs, and in front of the buffers one word a giant (its
@@ -185,40 +175,23 @@ pub fn giant_tree(
     else {
         return Ok(None);
     };
+    let list = GiantList::accept(baby_step, giant_step, slots, giants)?;
     let mut heap = [false; 131072];
-    let room = records.len();
-    let tree = grow(
-        baby_step, giant_step, slots, giants, leaves, levels, room, &mut heap,
-    )?;
-    write_records(tree.bits, &heap, records);
-    Ok(Some(tree))
-}
-
-// Kept: there is no heap memory, so the nodes stand in a table of fixed size.
-fn tree_keys(
-    baby_step: usize,
-    giant_step: usize,
-    slots: usize,
-    giants: &[i64],
-    out: &mut [u32],
-) -> Result<usize, Refusal>
-    ensures { ListWritten (giant_refusals (PowersOfTwo baby_step giant_step slots) giants.now) (tree_keys (list_tree slots giant_step giants.now)) out.old out.new result }
-{
-    check_giants(baby_step, giant_step, slots, giants)?;
-    let step = giant_step as u32;
-    let n = slots as u32;
-    let mut heap = [false; 131072];
-    let bits = plant(step, n, giants, &mut heap);
-    let count = keys_count(bits, step, n, &heap);
-    if out.len() < count {
+    let tree = list.plant(&mut heap);
+    let bits = tree.bits;
+    let pairs = tree.size();
+    if leaves.len() < giants.len() || levels.len() < 2 * bits as usize || records.len() < pairs {
         return Err(Refusal::Room);
     }
-    write_keys(bits, step, n, &heap, 0, out);
-    Ok(count)
+    list.write_leaves(bits, leaves);
+    tree.write_levels(levels);
+    tree.write_records(records);
+    Ok(Some(TreeSizes { bits, pairs }))
 }
 
 // The rotations of the tree's levels that have pairs, in front of out, and their number; none per
 // rotation. Refuses as `giant_tree`.
+// Kept: there is no heap memory, so the nodes stand in a table of fixed size.
 pub fn giant_key_rotations(
     rotations: BsgsRotations,
     giants: &[i64],
@@ -226,42 +199,40 @@ pub fn giant_key_rotations(
 ) -> Result<usize, Refusal>
     ensures { ListWritten (giant_refusals rotations giants.now) (giant_keys_of rotations giants.now) out.old out.new result }
 {
-    match rotations {
-        BsgsRotations::PerRotation => Ok(0),
-        BsgsRotations::PowersOfTwo {
-            baby_step: b,
-            giant_step: g,
-            slots: n,
-        } => { tree_keys(b, g, n, giants, out) }
-    }
-}
-
-// Kept: there is no heap memory, so the nodes stand in a table of fixed size.
-fn tree_switches(
-    baby_step: usize,
-    giant_step: usize,
-    slots: usize,
-    giants: &[i64],
-) -> Result<usize, Refusal>
-    ensures { result ≡ answered (first_refusal (giant_refusals (PowersOfTwo baby_step giant_step slots) giants.now)) (tree_switches (list_tree slots giant_step giants.now)) }
-{
-    check_giants(baby_step, giant_step, slots, giants)?;
+    let BsgsRotations::PowersOfTwo {
+        baby_step,
+        giant_step,
+        slots,
+    } = rotations
+    else {
+        return Ok(0);
+    };
+    let list = GiantList::accept(baby_step, giant_step, slots, giants)?;
     let mut heap = [false; 131072];
-    let bits = plant(giant_step as u32, slots as u32, giants, &mut heap);
-    Ok(tree_size(bits, &heap))
+    let tree = list.plant(&mut heap);
+    let count = tree.keys_count();
+    if out.len() < count {
+        return Err(Refusal::Room);
+    }
+    tree.write_keys(0, out);
+    Ok(count)
 }
 
 // The number of giant switches: the pairs of all levels, or per rotation the giants that are not 0.
 // Refuses with 1, 3 and 10 as `giant_tree`.
+// Kept: there is no heap memory, so the nodes stand in a table of fixed size.
 pub fn giant_key_switches(rotations: BsgsRotations, giants: &[i64]) -> Result<usize, Refusal>
     ensures { result ≡ answered (first_refusal (giant_refusals rotations giants.now)) (giant_switches_of rotations giants.now) }
 {
-    match rotations {
-        BsgsRotations::PerRotation => Ok(count_nonzeros(giants)),
-        BsgsRotations::PowersOfTwo {
-            baby_step: b,
-            giant_step: g,
-            slots: n,
-        } => { tree_switches(b, g, n, giants) }
-    }
+    let BsgsRotations::PowersOfTwo {
+        baby_step,
+        giant_step,
+        slots,
+    } = rotations
+    else {
+        return Ok(count_nonzeros(giants));
+    };
+    let list = GiantList::accept(baby_step, giant_step, slots, giants)?;
+    let mut heap = [false; 131072];
+    Ok(list.plant(&mut heap).size())
 }

@@ -6,9 +6,10 @@ ghost use Rattle.ring.specs.Answers.{answered};
 ghost use Rattle.linear_transformation.specs.Digits.{rot_of, level_rotation};
 ghost use Rattle.linear_transformation.specs.Trees.{level_words};
 ghost use Rattle.linear_transformation.specs.Calls.{level_refusal};
-ghost use Rattle.linear_transformation.specs.Steps.Trees.{Climbing, Climbed, LevelOf, level_pairs, heap_levels, heap_switches, Turnable, LevelDigit, LevelAsked, LevelsAsked, keys_of};
+ghost use Rattle.linear_transformation.specs.Steps.Trees.{Climbing, Climbed, level_pairs, levels_in, switches_in, Turnable, LevelDigit, LevelAsked, keys_of};
 
 use crate::digits::{Digit, Rot};
+use crate::tree::Tree;
 use ring::Refusal;
 
 // Kept: `1 << n` in its place would need at each place why the shift gives 2^n.
@@ -28,33 +29,6 @@ pub(crate) fn climb(size: usize, heap: &mut [bool; 131072])
     for h in (1..size).rev() {
         heap[h] = heap[2 * h] || heap[2 * h + 1];
     }
-}
-
-// The number of odd places of a level: as many as there are pairs at most.
-pub(crate) fn odd_places(bits: u32, level: u32) -> usize
-    requires { LevelOf bits level }
-    ensures { result ≡ 2 ^ (bits - suc level) }
-{
-    power(bits - 1 - level) as usize
-}
-
-// The number of pairs of a level.
-// Kept: there is no heap memory, so the nodes stand in a table of fixed size, and the tree's b bounds those that are looked at.
-fn level_size(bits: u32, level: u32, heap: &[bool; 131072]) -> usize
-    requires { LevelOf bits level }
-    ensures { result ≡ length (level_pairs heap.now bits level) }
-{
-    let m = odd_places(bits, level);
-    (0..m).filter(|&k| heap[2 * (m + k) + 1]).count()
-}
-
-// The number of pairs of all levels.
-// Kept: there is no heap memory, so the nodes stand in a table of fixed size, and the tree's b bounds those that are looked at.
-pub(crate) fn tree_size(bits: u32, heap: &[bool; 131072]) -> usize
-    requires { bits ≤ 16 }
-    ensures { result ≡ heap_switches bits heap.now bits }
-{
-    (0..bits).map(|i| level_size(bits, i, heap)).sum()
 }
 
 // The rotation of a level's digit: the only way from a digit to a rotation.
@@ -109,60 +83,67 @@ pub fn tree_rotation(
     Ok(rotation.0 as usize)
 }
 
-// Two words a level: its rotation and its number of pairs.
-// Kept: there is no heap memory, so the nodes stand in a table of fixed size, and the tree's b bounds those that are looked at.
-// Kept: the levels are no list; each is made from its number.
-pub(crate) fn write_levels(
-    bits: u32,
-    step: u32,
-    slots: u32,
-    heap: &[bool; 131072],
-    levels: &mut [u32],
-)
-    requires levels_asked { LevelsAsked slots step bits }
-    requires bits_in_bounds { 2 * bits ≤ length levels.old }
-    ensures { levels.new ≡ in_front (level_words (heap_levels slots step bits heap.now bits)) levels.old }
-{
-    let mut at = 0;
-    for i in 0..bits {
-        levels[at] = level_rotation(bits, i, step, slots).0;
-        levels[at + 1] = level_size(bits, i, heap) as u32;
-        at += 2;
+impl Tree<'_> {
+    // The number of odd places of a level: as many as there are pairs at most.
+    // Kept: `level < bits` is the bound of an index, here and below; a struct of a tree and a level would be no plainer.
+    pub(crate) fn odd_places(&self, level: u32) -> usize
+        requires { level < self.now.bits }
+        ensures { result ≡ 2 ^ (self.now.bits - suc level) }
+    {
+        power(self.bits - 1 - level) as usize
     }
-}
 
-// The number of levels that have pairs.
-// Kept: there is no heap memory, so the nodes stand in a table of fixed size, and the tree's b bounds those that are looked at.
-pub(crate) fn keys_count(bits: u32, step: u32, slots: u32, heap: &[bool; 131072]) -> usize
-    requires { bits ≤ 16 }
-    ensures { result ≡ length (keys_of (heap_levels slots step bits heap.now bits)) }
-{
-    (0..bits)
-        .filter(|&i| level_size(bits, i, heap) != 0)
-        .count()
-}
+    // The number of pairs of a level.
+    // Kept: as `odd_places`.
+    fn level_size(&self, level: u32) -> usize
+        requires { level < self.now.bits }
+        ensures { result ≡ length (level_pairs self.now.heap.now self.now.bits level) }
+    {
+        let m = self.odd_places(level);
+        (0..m).filter(|&k| self.heap[2 * (m + k) + 1]).count()
+    }
 
-// The rotations of the levels that have pairs, from at on. Gives the place behind them.
-// Kept: there is no heap memory, so the nodes stand in a table of fixed size, and the tree's b bounds those that are looked at.
-// Kept: the levels are no list; where a word goes depends on those before.
-pub(crate) fn write_keys(
-    bits: u32,
-    step: u32,
-    slots: u32,
-    heap: &[bool; 131072],
-    at: usize,
-    out: &mut [u32],
-) -> usize
-    requires levels_asked { LevelsAsked slots step bits }
-    requires bits_in_bounds { at + length (keys_of (heap_levels slots step bits heap.now bits)) ≤ length out.old }
-    ensures { Behind at (keys_of (heap_levels slots step bits heap.now bits)) out.old out.new result }
-{
-    let mut to = at;
-    for i in 0..bits {
-        if level_size(bits, i, heap) != 0 {
-            out[to] = level_rotation(bits, i, step, slots).0;
-            to += 1;
+    // The number of pairs of all levels.
+    pub(crate) fn size(&self) -> usize
+        ensures { result ≡ switches_in self.now }
+    {
+        (0..self.bits).map(|i| self.level_size(i)).sum()
+    }
+
+    // Two words a level: its rotation and its number of pairs.
+    // Kept: the levels are no list; each is made from its number.
+    pub(crate) fn write_levels(&self, levels: &mut [u32])
+        requires { 2 * self.now.bits ≤ length levels.old }
+        ensures { levels.new ≡ in_front (level_words (levels_in self.now)) levels.old }
+    {
+        let mut at = 0;
+        for i in 0..self.bits {
+            levels[at] = level_rotation(self.bits, i, self.step, self.slots).0;
+            levels[at + 1] = self.level_size(i) as u32;
+            at += 2;
         }
     }
-    to
+
+    // The number of levels that have pairs.
+    pub(crate) fn keys_count(&self) -> usize
+        ensures { result ≡ length (keys_of (levels_in self.now)) }
+    {
+        (0..self.bits).filter(|&i| self.level_size(i) != 0).count()
+    }
+
+    // The rotations of the levels that have pairs, from at on. Gives the place behind them.
+    // Kept: the levels are no list; where a word goes depends on those before.
+    pub(crate) fn write_keys(&self, at: usize, out: &mut [u32]) -> usize
+        requires { at + length (keys_of (levels_in self.now)) ≤ length out.old }
+        ensures { Behind at (keys_of (levels_in self.now)) out.old out.new result }
+    {
+        let mut to = at;
+        for i in 0..self.bits {
+            if self.level_size(i) != 0 {
+                out[to] = level_rotation(self.bits, i, self.step, self.slots).0;
+                to += 1;
+            }
+        }
+        to
+    }
 }

@@ -7,13 +7,17 @@ mod babies;
 mod digits;
 mod giants;
 mod heap;
+mod held;
 mod keys;
 mod marks;
+mod multiples;
 mod plan;
 mod records;
 mod rotations;
+mod sorted;
 mod sorting;
 mod stored;
+mod tree;
 mod widths;
 
 ghost use Rattle.std.specs.Prelude.{◌≡◌, false};
@@ -22,7 +26,7 @@ ghost use Rattle.ring.specs.Answers.{answered};
 ghost use Rattle.linear_transformation.specs.Strategies.{width_outside};
 ghost use Rattle.linear_transformation.specs.Plans.{width_of};
 ghost use Rattle.linear_transformation.specs.Calls.{normalize_refusal};
-ghost use Rattle.linear_transformation.specs.Steps.Keys.{turns_each};
+ghost use Rattle.linear_transformation.specs.Steps.Strategies.{turns_each};
 
 pub use babies::{baby_closure, baby_key_rotations, baby_passes};
 pub use digits::{Digit, Rot, baby_multiple, giant_digit};

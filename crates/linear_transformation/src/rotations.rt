@@ -29,7 +29,11 @@ pub struct TreeSizes {
     pub pairs: usize,
 }
 
-fn check_numbers(baby_step: usize, giant_step: usize, slots: usize) -> Result<(), Refusal>
+pub(crate) fn check_numbers(
+    baby_step: usize,
+    giant_step: usize,
+    slots: usize,
+) -> Result<(), Refusal>
     ensures { StepsJudged (PowersOfTwo baby_step giant_step slots) result }
 {
     if ring::is_outside(slots) {

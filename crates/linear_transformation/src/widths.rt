@@ -13,18 +13,14 @@ ghost use Rattle.linear_transformation.specs.Plans.{Distinct};
 use crate::sorting::sort_into;
 use ring::Refusal;
 
-// Kept: tried with `windows(2)`: that the difference of a pair is not below 0 (`overflow_sub-pair`) stayed open.
 fn smallest_gap(ds: &[u32]) -> u32
     requires distinct { Distinct 65536 ds.now }
     requires in_bounds { 2 ≤ length ds.now }
     ensures { Narrowest ds.now result }
 {
-    let mut gap = ds[1] - ds[0];
-    for t in 2..ds.len() {
-        let next = ds[t] - ds[t - 1];
-        if next < gap {
-            gap = next;
-        }
+    let mut gap = u32::MAX;
+    for pair in ds.windows(2) {
+        gap = gap.min(pair[1] - pair[0]);
     }
     gap
 }
@@ -55,26 +51,24 @@ fn weigh(ds: &[u32], width: u32, stamps: &mut [u32; 65536]) -> u32
 
 // The last of the multiples of the gap, below slots, whose cost is least.
 // Kept: there is no heap, so the stamps are an array on the stack, one for each number that can be a baby.
-// Kept: tried with `step_by`: `overflow_step-width` and `returns-after-weight-least` stayed open.
 fn cheapest_multiple(ds: &[u32], slots: u32, gap: u32) -> u32
     requires { Choice slots ds.now gap }
     ensures { result ≡ best_width slots ds.now }
 {
     let mut stamps = [0u32; 65536];
     let mut best = gap;
-    let mut least = weigh(ds, gap, &mut stamps);
-    let mut width = 2 * gap;
-    while width < slots {
+    let mut least = u32::MAX;
+    for width in (gap..slots).step_by(gap as usize) {
         let weight = weigh(ds, width, &mut stamps);
         if weight <= least {
             least = weight;
             best = width;
         }
-        width += gap;
     }
     best
 }
 
+// Kept: slots and diagonals go by alone, since a `Sorted` has a strategy, which there is none here.
 fn best_width(ds: &[u32], slots: u32) -> u32
     requires range { Range slots }
     requires distinct { Distinct slots ds.now }

@@ -1,36 +1,60 @@
 -- The walks over the pairs of a file: what they keep, a turn, and each way out.
 -- Assumes nothing.
-use Prim.Native.Nat.{ℕ, ◌+◌, ◌*◌, ◌≤◌, ◌<◌}
+use Prim.Native.Nat.{ℕ, zero, suc, ◌+◌, ◌*◌, ◌≤◌, ◌<◌}
 use mathlib.Core.Path.{◌≡◌, refl, sym, ap, ◌∙◌}
 use Rattle.std.specs.Prelude.{Ok, Err}
 use mathlib.Core.Bool.{false}
-use mathlib.Core.List.{List}
+use mathlib.Core.List.{List, []}
 use native.Mathlib.Omega.{arith}
 use borrow.Author.Tests.{le-leb}
-use lib.ListN.{length}
+use lib.ListN.{length, take, drop}
+use Rattle.std.proofs.Common.{slice_index_or, get_or-drop}
+use Rattle.std.proofs.lemmas.List.{get_or-take}
 use Rattle.ring.specs.declared.refusal.Refusal.TheVariants.{File}
 use Rattle.ring.specs.Searches.{every}
 use Rattle.ring.specs.Vectors.{tabulate, in_front}
-use Rattle.ring.specs.Laws.Vectors.{length_tabulate, tabulate_more}
+use Rattle.ring.specs.Laws.Vectors.{length_tabulate, get_or_tabulate, tabulate_more}
 use Rattle.diagonals.specs.Maps.{pair_room, offset_at, length_at, start_at, formed_at, well_formed, put_pair, pair_words, value_words}
 use Rattle.diagonals.specs.Laws.Checking.{Checking, checking_done}
 use Rattle.diagonals.specs.Laws.Pairs.{length_pair_words, put_more}
 use Rattle.diagonals.specs.Laws.Words.{pair_words_none, pair_words_more, start_alone}
 use Rattle.map_file.specs.Files.{number_at, count_in, offset_in, length_in, diagonal_in, map_in}
 use Rattle.map_file.specs.Laws.Telling.{length_told, offset_told, length_told_at}
-use Rattle.map_file.specs.Steps.{pairs_answer, Headed}
+use Rattle.map_file.specs.Steps.{pair_in, pairs_answer, Headed}
 
 -- ---- the numbers of a pair
 
--- as they are read
-module _ (bytes : List ℕ) (i : ℕ) {x : ℕ} where
-  pub offset_read : {at : ℕ} → at ≡ 8 + 8 * i → x ≡ number_at 4 bytes at → x ≡ offset_in bytes i
-  unfolding offset_in
-  offset_read e h = h ∙ ap (number_at 4 bytes) e
+-- a number of up to eight bytes, from the bytes of its pair
+number_part : (bytes : List ℕ) (s k at : ℕ) → at + k ≤ 8 → number_at k (take 8 (drop s bytes)) at ≡ number_at k bytes (s + at)
+unfolding number_at
+number_part bytes s zero at h = refl
+number_part bytes s (suc k) at h =
+    let e : suc (s + at) ≡ s + suc at = omega arith in
+    rw (get_or-take 8 (drop s bytes) at 0 (omega arith), get_or-drop, number_part bytes s k (suc at) (omega arith), e) refl
 
-  pub length_read : {at : ℕ} → at ≡ 12 + 8 * i → x ≡ number_at 4 bytes at → x ≡ length_in bytes i
-  unfolding length_in
-  length_read e h = h ∙ ap (number_at 4 bytes) e
+-- as a walk over the pairs reads them
+module _ (bytes : List ℕ) (n : ℕ) {items : List (List ℕ)} (e : items ≡ tabulate n (pair_in bytes)) where
+  pub items_length : length items ≡ n
+  items_length = ap length e ∙ length_tabulate n (pair_in bytes)
+
+  module _ {i : ℕ} (l : i < length items) where
+    pub item_low : i < n
+    item_low = omega (arith, items_length)
+
+    read_at : {x : ℕ} (at : ℕ) → at + 4 ≤ 8 → x ≡ number_at 4 (slice_index_or items i []) at → x ≡ number_at 4 bytes (8 + 8 * i + at)
+    read_at at f h = h ∙ ap (λ (p : List ℕ). number_at 4 p at) (rw e (get_or_tabulate n (pair_in bytes) i [] item_low)) ∙ number_part bytes (8 + 8 * i) 4 at f
+
+    pub offset_read : {x : ℕ} → x ≡ number_at 4 (slice_index_or items i []) 0 → x ≡ offset_in bytes i
+    unfolding offset_in
+    offset_read h =
+        let q : 8 + 8 * i + 0 ≡ 8 + 8 * i = omega arith in
+        read_at 0 (omega arith) h ∙ ap (number_at 4 bytes) q
+
+    pub length_read : {x : ℕ} → x ≡ number_at 4 (slice_index_or items i []) 4 → x ≡ length_in bytes i
+    unfolding length_in
+    length_read h =
+        let q : 8 + 8 * i + 4 ≡ 12 + 8 * i = omega arith in
+        read_at 4 (omega arith) h ∙ ap (number_at 4 bytes) q
 
 -- ---- pairs that are written
 
@@ -69,12 +93,12 @@ module _ {bytes : List ℕ} {slots count : ℕ} (h : Headed bytes slots count) w
   count_is : count ≡ length (map_in bytes)
   count_is = h.count_is ∙ sym (length_told bytes)
 
-  -- the numbers of a pair, as they are read
-  pub pair_read : {i offset len : ℕ} → i < count → offset ≡ number_at 4 bytes (8 + 8 * i) → len ≡ number_at 4 bytes (8 + 8 * i + 4) → (offset ≡ offset_at pairs i) × (len ≡ length_at pairs i)
+  -- the numbers of a pair
+  pub pair_read : {i offset len : ℕ} → i < count → offset ≡ offset_in bytes i → len ≡ length_in bytes i → (offset ≡ offset_at pairs i) × (len ≡ length_at pairs i)
   pair_read {i} l eo el =
       let inside : i < count_in bytes = omega (arith, h.count_is) in (
-        offset_read bytes i refl eo ∙ sym (offset_told bytes i inside),
-        length_read bytes i (omega arith) el ∙ sym (length_told_at bytes i inside),
+        eo ∙ sym (offset_told bytes i inside),
+        el ∙ sym (length_told_at bytes i inside),
       )
 
   formed_is : well_formed slots (length (map_in bytes)) pairs values ≡ every (formed_at slots pairs values) count

@@ -1,8 +1,8 @@
--- A map that the store accepts: the numbers that its file has, and its file as the writer puts it.
+-- An accepted map: the numbers that its file has, and its file as the writer puts it.
 -- Assumes nothing.
-use Rattle.std.specs.Prelude.{Some, Result, Ok, Err}
+use Rattle.std.specs.Prelude.{None, Ok, Err}
 use Prim.Native.Nat.{ℕ, zero, suc, ◌+◌, ◌*◌, ◌^◌, ◌≤◌, ◌<◌}
-use mathlib.Core.Path.{◌≡◌, sym, ap, ◌∙◌}
+use mathlib.Core.Path.{◌≡◌, refl, sym, ap, ◌∙◌}
 use mathlib.Core.Bool.{Bool, true, false}
 use mathlib.Core.List.{List, [], ◌∷◌, ◌++◌, append_assoc}
 use native.Mathlib.Nat.{le_of_dvd}
@@ -15,20 +15,17 @@ use Rattle.ring.specs.declared.refusal.Refusal.{Refusal}
 use Rattle.ring.specs.declared.refusal.Refusal.TheVariants.{Room}
 use Rattle.ring.specs.Lists.{join}
 use Rattle.ring.specs.Vectors.{in_front, put_at}
-use Rattle.ring.specs.Answers.{answered}
-use Rattle.ring.specs.Refusals.{first_refusal}
+use Rattle.ring.specs.Refusals.{first_refusal, outside}
 use Rattle.ring.specs.Laws.Lists.{length_join}
 use Rattle.ring.specs.Laws.Refusals.{inside, first_later}
-use Rattle.ring.specs.Laws.Answers.{when_ok, when_refused}
 use Rattle.ring.specs.Laws.Places.{put_both, put_front}
-use Rattle.diagonals.specs.Maps.{Diagonal, length_at, start_at, value_words, view, WellFormed}
+use Rattle.diagonals.specs.Maps.{Diagonal, length_at, start_at, value_words, well_formed, view, WellFormed}
 use Rattle.diagonals.specs.Calls.{map_refusals, map_refusal}
 use Rattle.diagonals.specs.Laws.Maps.{stored_divides, count_low, values_inside, length_view}
 use Rattle.diagonals.specs.Laws.Words.{values_view}
-use Rattle.diagonals.specs.Laws.Calls.{stored_means, still_refused}
+use Rattle.diagonals.specs.Laws.Calls.{stored_means}
 use Rattle.map_file.specs.Files.{bytes_of, pair_bytes, file_of}
 use Rattle.map_file.specs.Calls.{map_file, write_refusal, FileWritten}
-use Rattle.map_file.specs.Steps.{StoredMap}
 use Rattle.map_file.specs.Laws.Numbers.{length_bytes_of}
 use Rattle.map_file.specs.Laws.Telling.{length_pair_bytes, length_file}
 
@@ -37,14 +34,14 @@ start_small : (pairs : List ℕ) (n : ℕ) → ((i : ℕ) → i < n → length_a
 start_small pairs zero h = omega arith
 start_small pairs (suc n) h = omega (arith, start_small pairs n (λ i l. h i (omega arith)), h n (omega arith))
 
--- what `used_values` answers
-abbrev pub used_answer : ℕ → ℕ → List ℕ → List ℕ → Result ℕ Refusal
-used_answer slots count pairs values = answered (map_refusal slots count pairs values) (length (value_words (view count pairs values)))
+-- a map that is not refused, and the number of its values
+pub record StoredMap (slots count : ℕ) (pairs values : List ℕ) (total : ℕ) : Type 0 where
+  pub accepted : map_refusal slots count pairs values ≡ None
+  pub total_start : total ≡ start_at pairs count
 
-pub stored_of : {slots count total : ℕ} {pairs values : List ℕ} {r : Result ℕ Refusal} → r ≡ Ok total → r ≡ used_answer slots count pairs values → StoredMap slots count pairs values total
-stored_of {slots} {count} {total} {pairs} {values} e h =
-    let q = when_ok (map_refusal slots count pairs values) (length (value_words (view count pairs values))) total (sym e ∙ h) in
-    record { accepted = q.0; total_is = q.1 }
+-- an accepted map is one
+pub stored_of : {slots count total : ℕ} {pairs values : List ℕ} → outside slots ≡ false → well_formed slots count pairs values ≡ true → total ≡ start_at pairs count → StoredMap slots count pairs values total
+stored_of o f e = record { accepted = rw (o, f) refl; total_start = e }
 
 pub formed_small : {slots count : ℕ} {pairs values : List ℕ} → WellFormed slots count pairs values → 1 ≤ slots → slots ≤ 65536 → start_at pairs count ≤ 4294967296
 formed_small {slots} {count} {pairs} w l h =
@@ -61,20 +58,18 @@ module _ {slots count total : ℕ} {pairs values : List ℕ} (s : StoredMap slot
   pub stored_count : count ≤ 65536
   stored_count = omega (arith, stored_slots.1, count_low stored_formed)
 
-  total_start : total ≡ start_at pairs count
-  total_start = s.total_is ∙ ap length (values_view pairs values count) ∙ length-take-le _ values (values_inside stored_formed)
+  total_is : total ≡ length (value_words (view count pairs values))
+  total_is = s.total_start ∙ sym (ap length (values_view pairs values count) ∙ length-take-le _ values (values_inside stored_formed))
 
   pub stored_total : (total ≤ 4294967296) × (total ≤ length values)
-  stored_total = (omega (arith, total_start, formed_small stored_formed stored_slots.0 stored_slots.1), omega (arith, total_start, values_inside stored_formed))
+  stored_total = (omega (arith, s.total_start, formed_small stored_formed stored_slots.0 stored_slots.1), omega (arith, s.total_start, values_inside stored_formed))
+
+  -- the size of a file is a number
+  pub stored_small : 8 + 8 * count + 8 * total ≤ 2 ^ 36
+  stored_small = omega (arith, stored_count, stored_total)
 
   pub stored_size : 8 + 8 * count + 8 * total ≡ length (map_file slots count pairs values)
-  stored_size = sym (length_file slots (view count pairs values) ∙ rw (length_view count pairs values, s.total_is))
-
--- the size of a file is a number
-pub small_size : (slots count : ℕ) (pairs values : List ℕ) {total : ℕ} {r : Result ℕ Refusal} → r ≡ Ok total → r ≡ used_answer slots count pairs values → 8 + 8 * count + 8 * total ≤ 2 ^ 36
-small_size slots count pairs values e h =
-    let s : StoredMap slots count pairs values _ = stored_of e h in
-    omega (arith, stored_count s, (stored_total s).0)
+  stored_size = sym (length_file slots (view count pairs values) ∙ rw (length_view count pairs values, total_is))
 
 -- ---- returns of the writer
 
@@ -82,19 +77,13 @@ module _ (slots count : ℕ) (pairs values old : List ℕ) where
   abbrev room : List (Bool × Refusal)
   room = (ltb (length old) (length (map_file slots count pairs values)), Room) ∷ []
 
-  -- a map that is refused
-  pub map_refused : {e : Refusal} {r : Result ℕ Refusal} → r ≡ Err e → r ≡ used_answer slots count pairs values → FileWritten slots count pairs values old old (Err e)
-  map_refused {e} q h =
-      let same : write_refusal slots count pairs values old ≡ Some e = still_refused (map_refusals slots count pairs values) room (when_refused (map_refusal slots count pairs values) _ e (sym q ∙ h)) in
-      record { answer = rw same; out = rw same }
-
   module _ {total : ℕ} (s : StoredMap slots count pairs values total) where
     later : write_refusal slots count pairs values old ≡ first_refusal room
     later = first_later (map_refusals slots count pairs values) room s.accepted
 
     -- an out that is too short
-    pub file_no_room : length old < 8 + 8 * count + 8 * total → FileWritten slots count pairs values old old (Err Room)
-    file_no_room l =
+    pub file_no_room : {size : ℕ} → size ≡ 8 + 8 * count + 8 * total → length old < size → FileWritten slots count pairs values old old (Err Room)
+    file_no_room e l =
         let t : ltb (length old) (length (map_file slots count pairs values)) ≡ true = lt-ltb (length old) (length (map_file slots count pairs values)) (omega (arith, stored_size s)) in
         record { answer = rw (later, t); out = rw (later, t) }
 
@@ -127,7 +116,7 @@ module _ (slots count : ℕ) (pairs values old : List ℕ) where
         three = length-append (head ++ number) offsets ∙ omega (arith, two, length_join pair_bytes 8 length_pair_bytes ds, length_view count pairs values)
 
         used : take total values ≡ value_words ds
-        used = ap (λ (n : ℕ). take n values) (total_start s) ∙ sym (values_view pairs values count)
+        used = ap (λ (n : ℕ). take n values) s.total_start ∙ sym (values_view pairs values count)
 
         parts : ((head ++ number) ++ offsets) ++ words ≡ file_of slots ds
         parts = rw (append_assoc (head ++ number) offsets words, append_assoc head number (offsets ++ words), used, length_view count pairs values)

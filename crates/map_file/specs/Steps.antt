@@ -1,20 +1,18 @@
 -- What the private steps of this crate ask and ensure. A reader need not believe these.
 -- Assumes nothing.
-use Rattle.std.specs.Prelude.{ℕ, ◌+◌, ◌*◌, ◌≤◌, ◌≡◌, not, List, [], ◌∷◌, length, None, Result, Ok}
+use Rattle.std.specs.Prelude.{ℕ, ◌+◌, ◌*◌, ◌≤◌, ◌≡◌, not, List, [], ◌∷◌, length, take, drop, Result, Ok}
 use Rattle.ring.specs.declared.refusal.Refusal.{Refusal}
 use Rattle.ring.specs.declared.refusal.Refusal.TheVariants.{File}
 use Rattle.ring.specs.Refusals.{first_refusal, Range}
 use Rattle.ring.specs.Answers.{answered}
-use Rattle.diagonals.specs.Maps.{well_formed, pair_words, value_words, view}
-use Rattle.diagonals.specs.Calls.{map_refusal}
+use Rattle.diagonals.specs.Maps.{well_formed, pair_words, value_words}
 use Rattle.map_file.specs.declared.reading.Held.{Held}
 use Rattle.map_file.specs.Files.{slots_in, count_in, map_in}
 use Rattle.map_file.specs.Calls.{file_refusal}
 
--- a map that is not refused, and the number of its values
-pub record StoredMap (slots count : ℕ) (pairs values : List ℕ) (total : ℕ) : Type 0 where
-  pub accepted : map_refusal slots count pairs values ≡ None
-  pub total_is : total ≡ length (value_words (view count pairs values))
+-- the bytes of the i-th pair
+abbrev pub pair_in : List ℕ → ℕ → List ℕ
+pair_in bytes i = take 8 (drop (8 + 8 * i) bytes)
 
 -- bytes with slots, count and all pairs
 pub record Headed (bytes : List ℕ) (slots count : ℕ) : Type 0 where

@@ -11,6 +11,7 @@ pub(crate) fn put_u32(out: &mut [u8], at: usize, x: u32)
     out[at..at + 4].copy_from_slice(&x.to_le_bytes());
 }
 
+// Kept: as `put_u32`.
 pub(crate) fn put_u64(out: &mut [u8], at: usize, x: u64)
     requires { at + 8 ≤ length out.old }
     ensures { out.new ≡ put_at at (bytes_of 8 x) out.old }

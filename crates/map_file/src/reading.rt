@@ -4,7 +4,7 @@ ghost use Rattle.ring.specs.Vectors.{tabulate, in_front};
 ghost use Rattle.diagonals.specs.Maps.{pair_room, pair_words};
 ghost use Rattle.map_file.specs.Files.{number_at, map_in};
 ghost use Rattle.map_file.specs.Calls.{room_answer, FileRead};
-ghost use Rattle.map_file.specs.Steps.{pairs_answer, Headed, FileJudged};
+ghost use Rattle.map_file.specs.Steps.{pair_in, pairs_answer, Headed, FileJudged};
 
 use crate::numbers::{u32_at, u64_at};
 use ring::Refusal;
@@ -23,18 +23,24 @@ pub struct FileRoom {
     pub values: usize,
 }
 
+// The bytes of the first `count` pairs.
+fn first_pairs(bytes: &[u8], count: usize) -> &[[u8; 8]]
+    requires { 8 + 8 * count ≤ length bytes.now }
+    ensures { result.now ≡ tabulate count (pair_in bytes.now) }
+{
+    &bytes[8..].as_chunks::<8>().0[..count]
+}
+
 // The number of values that well-formed pairs have. Refuses with 13 pairs that are not.
-// Kept: by `chunks_exact` it is no plainer: the invariant needs what the iterator has left, and the pair's number all the same.
 fn total_in(bytes: &[u8], slots: u32, count: usize) -> Result<usize, Refusal>
     requires { Headed bytes.now slots count }
     ensures { result ≡ pairs_answer bytes.now slots }
 {
     let mut total: usize = 0;
     let mut next: u32 = 0;
-    for i in 0..count {
-        let at = 8 + 8 * i;
-        let offset = u32_at(bytes, at);
-        let len = u32_at(bytes, at + 4);
+    for pair in first_pairs(bytes, count) {
+        let offset = u32_at(pair, 0);
+        let len = u32_at(pair, 4);
         if offset < next || slots <= offset || !diagonals::is_period(slots, len) {
             return Err(Refusal::File);
         }
@@ -86,16 +92,14 @@ pub fn map_file_room(bytes: &[u8]) -> Result<FileRoom, Refusal>
     })
 }
 
-// Kept: by their number, since only the store knows where the words of a pair stand.
 fn read_pairs(bytes: &[u8], count: usize, pairs: &mut [u32])
     requires count_in_bounds { 8 + 8 * count ≤ length bytes.now }
     requires count_value { count ≡ length (map_in bytes.now) }
     requires count_in_bounds_2 { pair_room count ≤ length pairs.old }
     ensures { pairs.new ≡ in_front (pair_words (map_in bytes.now)) pairs.old }
 {
-    for i in 0..count {
-        let at = 8 + 8 * i;
-        diagonals::put_pair(pairs, i, u32_at(bytes, at), u32_at(bytes, at + 4));
+    for (i, pair) in first_pairs(bytes, count).iter().enumerate() {
+        diagonals::put_pair(pairs, i, u32_at(pair, 0), u32_at(pair, 4));
     }
 }
 

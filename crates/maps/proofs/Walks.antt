@@ -1,10 +1,9 @@
 -- The walks that build a map of summands: a summand more, an output more, for marks and for sums.
 -- Assumes nothing.
-use Rattle.std.proofs.Common.{◌≡◌, ℕ, ◌+◌, ◌*◌, ◌<◌, ◌≤◌, Bool, true, List, [], ◌∷◌, ◌++◌, length, get_or, set, replicate, pos, ◌-ℤ◌, Option, None, Some, Result, Ok, Err, sym, refl, ap, ◌∙◌, subst, append_assoc, append-nil, arith, eq-eqb}
+use Rattle.std.proofs.Common.{◌≡◌, ℕ, ◌+◌, ◌*◌, ◌<◌, ◌≤◌, Bool, true, List, [], ◌∷◌, ◌++◌, length, get_or, set, replicate, pos, ◌-ℤ◌, Option, None, Some, Result, Ok, Err, sym, refl, ap, ◌∙◌, subst, append_assoc, append-nil, eq-eqb}
 use lib.ListN.{length-replicate}
 use Rattle.ring.specs.Slots.{modulus, addm}
 use Rattle.ring.specs.Residues.{residue_of}
-use Rattle.ring.specs.Laws.Residues.{residue_lt}
 use Rattle.ring.specs.declared.refusal.Refusal.{Refusal}
 use Rattle.ring.specs.Refusals.{first_refusal, Range}
 use Rattle.ring.specs.Laws.Refusals.{none_holds, inside}
@@ -66,9 +65,6 @@ module _ {f : ℕ → ℕ → Option Summand} {width slots t l : ℕ} {seen : Li
 
   pub marking_done : l ≡ width → MarksOf slots (rows_upto f width (t + 1)) seen
   marking_done e = subst (λ ts. MarksOf slots ts seen) (done f width t l e) m.so_far
-
-pub mark_low : {slots o : ℕ} (j t : ℕ) → Range slots → o ≡ residue_of (pos j -ℤ pos t) slots → o < 65536
-mark_low {slots} j t r e = omega (arith, e, residue_lt (pos j -ℤ pos t) slots r.low, r.high)
 
 -- ---- sums
 

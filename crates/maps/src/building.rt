@@ -26,9 +26,11 @@ pub(crate) trait Summands {
 
     ghost summand: { Self → ℕ → ℕ → Option Summand };
 
+    // Kept: `period` and `width` are two methods of one trait.
     fn period(&self) -> usize
         ensures { result ≡ period self.now };
 
+    // Kept: `period` and `width` are two methods of one trait.
     fn width(&self) -> usize
         ensures { result ≡ width self.now };
 
@@ -54,6 +56,7 @@ fn mark_row<T: Summands>(map: &T, slots: usize, t: usize, seen: &mut [bool; 6553
     }
 }
 
+// Kept: t as in `mark_row`.
 fn mark<T: Summands>(map: &T, slots: usize, seen: &mut [bool; 65536])
     requires range { Range slots }
     requires unmarked { Unmarked seen.old }
@@ -65,6 +68,8 @@ fn mark<T: Summands>(map: &T, slots: usize, seen: &mut [bool; 65536])
 }
 
 // Adds what output t sums.
+// Kept: l as in `mark_row`.
+#[tactic(auto, using(crate::proofs::Walks::summing_read))]
 fn add_row<T: Summands>(map: &T, slots: usize, t: usize, places: &[u32; 65536], values: &mut [u64])
     requires t_low { t < T.period map.now }
     requires placed { Placed modulus slots (T.period map.now) (T.summand map.now) (T.width map.now) places.now t values.old values.old }
@@ -80,6 +85,7 @@ fn add_row<T: Summands>(map: &T, slots: usize, t: usize, places: &[u32; 65536], 
     }
 }
 
+// Kept: t as in `mark_row`.
 fn add<T: Summands>(map: &T, slots: usize, places: &[u32; 65536], values: &mut [u64])
     requires { Placed modulus slots (T.period map.now) (T.summand map.now) (T.width map.now) places.now 0 values.old values.old }
     ensures { SumsOf modulus slots (T.period map.now) (rows_upto (T.summand map.now) (T.width map.now) (T.period map.now)) (rows_upto (T.summand map.now) (T.width map.now) (T.period map.now)) values.old values.new }

@@ -1,5 +1,5 @@
 // The maps that read one entry or none, under their names in poulpy. Each is one call of `rule_map`.
-// Kept: these are the names that C calls, and C passes the numbers and the two buffers one by one.
+// C calls them by these names, and passes the numbers and the two buffers one by one.
 ghost use Rattle.maps.specs.declared.rules.Rule.TheVariants.{Sigma, Tau, Transpose, RotateRows, RotateCols, RowsUpper, RowsLower, ColsLeft, ColsRight, RowsLeft, RowsRight};
 ghost use Rattle.maps.specs.Calls.{RuleWritten};
 
@@ -8,6 +8,7 @@ use crate::rules::Rule;
 use ring::Refusal;
 
 // JKLS sigma: output (r, c) reads (r, r + c mod d).
+// Kept: a name that C calls, with the arguments that it passes.
 pub fn sigma(
     slots: usize,
     log_d: usize,
@@ -20,6 +21,7 @@ pub fn sigma(
 }
 
 // JKLS tau: output (r, c) reads (r + c mod d, c).
+// Kept: a name that C calls, with the arguments that it passes.
 pub fn tau(
     slots: usize,
     log_d: usize,
@@ -32,6 +34,7 @@ pub fn tau(
 }
 
 // Output (r, c) reads (c, r).
+// Kept: a name that C calls, with the arguments that it passes.
 pub fn transpose(
     slots: usize,
     log_d: usize,
@@ -44,6 +47,7 @@ pub fn transpose(
 }
 
 // JKLS psi^k: output (r, c) reads (r + k mod d, c), for k up to 65,536.
+// Kept: a name that C calls, with the arguments that it passes.
 pub fn rotate_rows(
     slots: usize,
     log_d: usize,
@@ -57,6 +61,7 @@ pub fn rotate_rows(
 }
 
 // JKLS phi^k: output (r, c) reads (r, c + k mod d), for k up to 65,536.
+// Kept: a name that C calls, with the arguments that it passes.
 pub fn rotate_cols(
     slots: usize,
     log_d: usize,
@@ -70,6 +75,7 @@ pub fn rotate_cols(
 }
 
 // Upper half of psi^k: output (r, c) reads (r + k, c) where r + k < d, else 0.
+// Kept: a name that C calls, with the arguments that it passes.
 pub fn rows_upper(
     slots: usize,
     log_d: usize,
@@ -83,6 +89,7 @@ pub fn rows_upper(
 }
 
 // Lower half of psi^k: output (r, c) reads (r + k - d, c) where r + k >= d, else 0.
+// Kept: a name that C calls, with the arguments that it passes.
 pub fn rows_lower(
     slots: usize,
     log_d: usize,
@@ -96,6 +103,7 @@ pub fn rows_lower(
 }
 
 // Left half of phi^k: output (r, c) reads (r, c + k) where c + k < d, else 0.
+// Kept: a name that C calls, with the arguments that it passes.
 pub fn cols_left(
     slots: usize,
     log_d: usize,
@@ -109,6 +117,7 @@ pub fn cols_left(
 }
 
 // Right half of phi^k: output (r, c) reads (r, c + k - d) where c + k >= d, else 0.
+// Kept: a name that C calls, with the arguments that it passes.
 pub fn cols_right(
     slots: usize,
     log_d: usize,
@@ -122,6 +131,7 @@ pub fn cols_right(
 }
 
 // The columns of psi^k that phi^k keeps: output (r, c) reads (r + k mod d, c) where c + k < d, else 0.
+// Kept: a name that C calls, with the arguments that it passes.
 pub fn rows_left(
     slots: usize,
     log_d: usize,
@@ -135,6 +145,7 @@ pub fn rows_left(
 }
 
 // The columns of psi^k that phi^k wraps: output (r, c) reads (r + k mod d, c) where c + k >= d, else 0.
+// Kept: a name that C calls, with the arguments that it passes.
 pub fn rows_right(
     slots: usize,
     log_d: usize,

@@ -63,6 +63,7 @@ impl Summands for Reads {
 
     ghost summand = { λ m t l. read_summand m.rule (2 ^ m.side.log_d) t };
 
+    // Kept: `period` and `width` are two methods of one trait.
     fn period(&self) -> usize {
         self.side.size()
     }
@@ -94,6 +95,7 @@ fn check_rule(rule: Rule, slots: usize, log_d: usize) -> Result<Reads, Refusal>
 }
 
 // The map of a rule, shrunk: pairs and values need room for it before that.
+// Kept: what C passes, on its way to `check_rule` and `build`, which make of it what stays together.
 pub(crate) fn rule_map(
     rule: Rule,
     slots: usize,

@@ -54,6 +54,7 @@ pub fn tau_rep(
 }
 
 // The rotation of the rows by k: the rotation by k·d, for k in 1..d.
+// Kept: a name that C calls, with the arguments that it passes.
 pub fn rotate_rows_rep(
     slots: usize,
     log_d: usize,
@@ -95,6 +96,7 @@ fn write_turned(side: Side, b: &[u64], out: &mut [u64])
 }
 
 // The left product by one public matrix: at offset j·d the entries b(r, (r + j) mod d), stored at d².
+// Kept: a name that C calls, with the arguments that it passes.
 pub fn left_mul_rep(
     slots: usize,
     log_d: usize,

@@ -18,6 +18,7 @@ fn write_lengths(count: usize, p: usize, pairs: &mut [u32])
 }
 
 // The first p of every `period` values, back to back.
+// Kept: by their number, since a walk by `chunks_exact` would borrow the slice that `copy_within` writes.
 fn move_rows(period: usize, p: usize, count: usize, values: &mut [u64])
     requires { Narrowing period p count values.old }
     ensures { values.new ≡ filled (moved_at period p values.old) (count * p) values.old }

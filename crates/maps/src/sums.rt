@@ -97,6 +97,7 @@ impl<'a> Summands for Sums<'a> {
         }
     }
 
+    // Kept: `period` and `width` are two methods of one trait.
     fn width(&self) -> usize {
         self.side.rows()
     }
@@ -111,6 +112,7 @@ impl<'a> Summands for Sums<'a> {
 }
 
 // A product on the matrices that tile the slots. Refuses with 1, 5 or 7.
+// Kept: the numbers that this test makes `Sums`.
 fn check_product<'a>(
     product: Product,
     slots: usize,
@@ -132,6 +134,7 @@ fn check_product<'a>(
     })
 }
 
+// Kept: what C passes, on its way to `check_product` and `build`, which make of it what stays together.
 fn product_map(
     product: Product,
     slots: usize,
@@ -163,6 +166,7 @@ pub fn right_mul(
 }
 
 // The left product: output (r, c) of matrix slot s sums b(s, r, l) times in(l, c).
+// Kept: a name that C calls, with the arguments that it passes.
 pub fn left_mul(
     slots: usize,
     log_d: usize,
@@ -177,6 +181,7 @@ pub fn left_mul(
 }
 
 // The right product of what sigma gave: the second stage of JKLS.
+// Kept: a name that C calls, with the arguments that it passes.
 pub fn right_jkls(
     slots: usize,
     log_d: usize,
@@ -191,6 +196,7 @@ pub fn right_jkls(
 }
 
 // The left product of what tau gave.
+// Kept: a name that C calls, with the arguments that it passes.
 pub fn left_jkls(
     slots: usize,
     log_d: usize,

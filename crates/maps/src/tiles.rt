@@ -5,6 +5,7 @@ use crate::side::Side;
 use ring::Refusal;
 
 // The side of `count` matrices that tile the slots. Refuses with 1 or 5 slots that they do not tile.
+// Kept: the numbers that this test makes a `Side`.
 pub(crate) fn check_tiles(slots: usize, log_d: usize, count: usize) -> Result<Side, Refusal>
     ensures { TilesJudged slots log_d count result }
 {

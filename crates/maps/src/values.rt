@@ -66,6 +66,7 @@ fn check_values(log_d: usize, count: usize, len: usize) -> Result<Side, Refusal>
     Ok(side)
 }
 
+// Kept: what C passes, on its way to `check_values`.
 fn skewed_values(
     skew: Skew,
     log_d: usize,
@@ -92,6 +93,7 @@ pub fn tau_values(log_d: usize, count: usize, b: &[u64], out: &mut [u64]) -> Res
 }
 
 // Sigma of public matrices: entry (r, c) is b's at (r, (r + c) mod d).
+// Kept: a name that C calls, with the arguments that it passes.
 pub fn sigma_values(
     log_d: usize,
     count: usize,
@@ -123,6 +125,7 @@ fn project(n: usize, len: usize, pairs: &mut [u32], values: &mut [u64]) -> Resul
 }
 
 // The projection on row 0, stored at d².
+// Kept: a name that C calls, with the arguments that it passes.
 pub fn first_row(
     slots: usize,
     log_d: usize,
@@ -136,6 +139,7 @@ pub fn first_row(
 }
 
 // The projection on column 0, stored at d.
+// Kept: a name that C calls, with the arguments that it passes.
 pub fn first_col(
     slots: usize,
     log_d: usize,

@@ -87,6 +87,7 @@ impl Shown for u64 {
 impl Shown for u32 {
     const EMPTY: Self = 0;
 
+    // Kept: one `Shown` for each type.
     fn show(self, answer: &mut Answer) -> Result<(), AllocError> {
         answer.number(u64::from(self))
     }
@@ -95,6 +96,7 @@ impl Shown for u32 {
 impl Shown for u8 {
     const EMPTY: Self = 0;
 
+    // Kept: one `Shown` for each type.
     fn show(self, answer: &mut Answer) -> Result<(), AllocError> {
         answer.number(u64::from(self))
     }
@@ -111,6 +113,7 @@ impl Shown for usize {
 impl Shown for bool {
     const EMPTY: Self = false;
 
+    // Kept: one `Shown` for each type.
     fn show(self, answer: &mut Answer) -> Result<(), AllocError> {
         answer.number(u64::from(self))
     }
@@ -143,6 +146,7 @@ impl Shown for PassSizes {
         moves: 0,
     };
 
+    // Kept: one `Shown` for each type.
     fn show(self, answer: &mut Answer) -> Result<(), AllocError> {
         answer.show(self.passes)?;
         answer.show(self.moves)
@@ -185,6 +189,7 @@ impl Shown for PairRecord {
         even_there: false,
     };
 
+    // Kept: one `Shown` for each type.
     fn show(self, answer: &mut Answer) -> Result<(), AllocError> {
         answer.show(self.odd)?;
         answer.show(self.even_there)
@@ -194,6 +199,7 @@ impl Shown for PairRecord {
 impl Shown for FileMap {
     const EMPTY: Self = FileMap { slots: 0, count: 0 };
 
+    // Kept: one `Shown` for each type.
     fn show(self, answer: &mut Answer) -> Result<(), AllocError> {
         answer.list(&[self.slots, self.count])
     }
@@ -205,6 +211,7 @@ impl Shown for FileRoom {
         values: 0,
     };
 
+    // Kept: one `Shown` for each type.
     fn show(self, answer: &mut Answer) -> Result<(), AllocError> {
         answer.list(&[self.pairs, self.values])
     }

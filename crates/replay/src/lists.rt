@@ -29,6 +29,7 @@ impl ListCall {
 }
 
 // The number of the first factors, these, the second factors.
+// Kept: the sample lends 16 words to each such call, so an array holds them.
 fn multiply_add_into(words: &mut Words<'_>, answer: &mut Answer) -> Result<(), AllocError> {
     let n = words.size();
     let first = words.list(n);

@@ -29,6 +29,7 @@ fn numbers_of(alloc: Global, line: &str) -> Result<Vec<u64>, AllocError> {
 }
 
 // A line that begins with no call's code has an empty answer.
+// Kept: `Answer::new` makes the line that is printed, no enum of a refusal.
 fn answer_to(alloc: Global, line: &str) -> Result<Answer, AllocError> {
     let numbers = numbers_of(alloc, line)?;
     let mut words = Words::new(&numbers);

@@ -22,6 +22,7 @@ pub(crate) enum MapOfMatrices {
 }
 
 impl MatrixCall {
+    // Kept: the sample lends as many words to each such call, so arrays hold them.
     pub(crate) fn answer(
         self,
         alloc: Global,

@@ -144,6 +144,7 @@ fn evaluate(alloc: Global, words: &mut Words<'_>, answer: &mut Answer) -> Result
     answer.list(&out)
 }
 
+// Kept: `write_file` lends bytes and calls another function; one over both would take the call as a closure for these lines.
 fn indexes(alloc: Global, words: &mut Words<'_>, answer: &mut Answer) -> Result<(), AllocError> {
     let mut out = lent(alloc, words.size(), 7u32)?;
     let map = StoredMap::read(alloc, words)?;
@@ -151,6 +152,7 @@ fn indexes(alloc: Global, words: &mut Words<'_>, answer: &mut Answer) -> Result<
     answer.list(&out)
 }
 
+// Kept: as `indexes`.
 fn write_file(alloc: Global, words: &mut Words<'_>, answer: &mut Answer) -> Result<(), AllocError> {
     let mut out = lent(alloc, words.size(), 7u8)?;
     let map = StoredMap::read(alloc, words)?;

@@ -54,6 +54,7 @@ pub(crate) fn narrowed(alloc: Global, words: &[u64]) -> Result<Vec<u32>, AllocEr
     words.iter().map(|&word| narrow(word)).collect(alloc)
 }
 
+// Kept: each word gives its low byte; std has no From that cuts.
 pub(crate) fn bytes_of(alloc: Global, words: &[u64]) -> Result<Vec<u8>, AllocError> {
     words.iter().map(|&word| (word & 0xff) as u8).collect(alloc)
 }

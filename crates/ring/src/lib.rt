@@ -26,6 +26,7 @@ pub fn is_outside(n: usize) -> bool
 }
 
 // How many of the numbers below n are marked in the table.
+// Kept: there is no heap, so tables have their full size, and a bound says how much of one is in use.
 pub fn count_marks(seen: &[bool; 65536], n: usize) -> usize
     ensures { MarksCounted seen.now n result }
 {
@@ -68,6 +69,7 @@ pub fn multiply_add_into(a: &[u64], b: &[u64], out: &mut [u64]) -> Result<(), Re
 }
 
 // x where it is not negative, else -1 - x, which fits where -x may not.
+// Kept: no conversion, a number of its own; `unsigned_abs` gives another below 0.
 fn magnitude(x: i64) -> u64
     ensures { result ≡ mag x }
 {
@@ -173,6 +175,7 @@ fn reduced(v: &[u64], period: usize, f: usize) -> usize
 }
 
 // Every prime of the length is divided out while the quotient still repeats.
+// Kept: f is a factor and no index, and where the loop ends depends on what is left.
 fn smallest_period(v: &[u64]) -> usize
     requires { Range (length v.now) }
     ensures { result ≡ min_period v.now }

@@ -8,7 +8,6 @@ use Rattle.ring.specs.Vectors.{tabulate, in_front}
 use Rattle.ring.specs.Laws.Lists.{each_at}
 use Rattle.ring.specs.Laws.Vectors.{tabulate_get_or, tabulate_cong}
 use Rattle.diagonals.specs.Maps.{offsets_of, view, WellFormed}
-use Rattle.diagonals.specs.Laws.Maps.{count_low}
 use Rattle.linear_transformation.specs.declared.LinearTransformationStrategy.{LinearTransformationStrategy}
 use Rattle.linear_transformation.specs.Strategies.{width_outside}
 use Rattle.linear_transformation.specs.Plans.{width_of, plan_pairs}
@@ -72,12 +71,9 @@ module _
         ∙ sym (rw (cut_first slots width ks p h, cut_size slots width ks p h))
 
     module _ {cache nodes : List ℕ} (cached : (length (plan_babies slots strategy (offsets_of (view count pairs values))) - 1) * slots ≤ length cache) (room : length (plan_giants slots strategy (offsets_of (view count pairs values))) * slots ≤ length nodes) where
-      plan_asked : NodesAsked babies giants words pairs values input cache nodes
+      plan_asked : NodesAsked babies giants words count pairs input cache nodes
       plan_asked =
           record {
-            count = count;
-            few = omega (arith, count_low formed, r.high);
-            formed = rw len formed;
             babies = babies_of_lem slots strategy ks r len cached;
             sizes = pairs_words_length slots width ks;
             runs = λ p l. rw (cut_first slots width ks p l, cut_size slots width ks p l) (giant_run p l);
@@ -87,7 +83,7 @@ module _
           }
 
       pub nodes_of : {bs gs cuts : List ℕ} → bs ≡ plan_babies slots strategy (offsets_of (view count pairs values)) → gs ≡ plan_giants slots strategy (offsets_of (view count pairs values)) → cuts ≡ join (λ c. c.0 ∷ c.1 ∷ []) (plan_pairs slots (width_of strategy) (offsets_of (view count pairs values)))
-          → NodesAsked bs gs cuts pairs values input cache nodes
+          → NodesAsked bs gs cuts count pairs input cache nodes
       nodes_of b g c = rw (b, g, c) plan_asked
 
     -- the p-th vector is the node of the p-th giant

@@ -144,15 +144,15 @@ module _ (bs gs cuts pairs values input cache : List ℕ) where
     pub at_is : p < length gs → at ≡ start_at pairs (get_or cuts (2 * p) 0)
     pub further : (old : List ℕ) → MadeTo node (length gs) (length input) (λ q. slot) old nodes₀ → MadeTo node (length gs) (length input) (tile_to slot size p) old nodes
 
-  module _ {slot size : ℕ} {nodes₀ : List ℕ} (t : TileAsked bs gs cuts pairs values input cache slot size nodes₀) where
+  module _ {slot size : ℕ} {nodes₀ : List ℕ} {count : ℕ} (t : TileAsked bs gs cuts count pairs input cache slot size nodes₀) where
     module _ {nodes : List ℕ} {at p : ℕ} (n : Tiling slot size nodes₀ nodes at p) (l : p < length gs) where
       pub part_room : p * length input + slot + size ≤ length nodes
       part_room = omega (arith, vector_room p (length gs) (length input) l, t.asked.room, t.inside, n.len)
 
-      pub tiling_more : {g first count end size' : ℕ} → g ≡ get_or gs p 0 → first ≡ get_or cuts (2 * p) 0 → count ≡ get_or cuts (2 * p + 1) 0 → size' ≡ size → {ys : List ℕ} → PartMade bs g first count pairs values input cache slot size' ys end
+      pub tiling_more : {g first many end size' : ℕ} → g ≡ get_or gs p 0 → first ≡ get_or cuts (2 * p) 0 → many ≡ get_or cuts (2 * p + 1) 0 → size' ≡ size → {ys : List ℕ} → PartMade bs g first many pairs values input cache slot size' ys end
           → Tiling slot size nodes₀ (take (p * length input + slot) nodes ++ (ys ++ drop (p * length input + slot + size - (p * length input + slot)) (drop (p * length input + slot) nodes))) end (p + 1)
       unfolding put_at in_front
-      tiling_more {g} {first} {count} {end} {size'} e f s z {ys} m =
+      tiling_more {g} {first} {many} {end} {size'} e f s z {ys} m =
           record {
             room = omega arith;
             len = ap length whole ∙ length_put_at start ys nodes fits ∙ n.len;
@@ -181,7 +181,7 @@ module _ (bs gs cuts pairs values input cache : List ℕ) where
     pub room : slot ≤ length input
     pub made : MadeTo node (length gs) (length input) (λ q. slot) old nodes
 
-  module _ {old : List ℕ} (a : NodesAsked bs gs cuts pairs values input cache old) where
+  module _ {old : List ℕ} {count : ℕ} (a : NodesAsked bs gs cuts count pairs input cache old) where
     module _ {nodes : List ℕ} {slot : ℕ} (n : Noding old nodes slot) where
       pub noding_more : {size : ℕ} {new : List ℕ} → size ≤ length input - slot → TileMade bs gs cuts pairs values input cache slot size nodes new → Noding old new (slot + size)
       noding_more h t = record { room = omega (arith, n.room); made = t.further old n.made }

@@ -1,5 +1,6 @@
 -- What the loops keep, and a turn of each; the parts that are lent.
 pub mod Accepted
+pub mod Entries
 pub mod Parts
 pub mod Arounds
 pub mod Copies

@@ -1,30 +1,28 @@
 -- The survey before a run: each refusal, the offsets listed, and what the plan needs.
 -- Assumes nothing.
-use Rattle.std.specs.Prelude.{Option, None, Some, Result, Ok, Err, IsOk}
-use Rattle.std.proofs.Common.{◌≡◌, ℕ, ◌≤◌, min, Bool, false, not, eqb, ltb, List, [], ◌∷◌, length, take, drop, sym, refl, ap, ◌∙◌, arith, take_at, le-ltb, eq-eqb}
+use Rattle.std.specs.Prelude.{Option, None, Some, Result, Ok, Err}
+use Rattle.std.proofs.Common.{◌≡◌, ℕ, false, List, length, take, drop, sym, refl, ap, ◌∙◌, take_at, eq-eqb}
 use Rattle.ring.specs.declared.refusal.Refusal.{Refusal}
-use Rattle.ring.specs.declared.refusal.Refusal.TheVariants.{OutOfRange, Length, Key, Room}
-use Rattle.ring.specs.Vectors.{in_front}
-use Rattle.ring.specs.Refusals.{first_refusal, Range}
-use Rattle.ring.specs.Laws.Refusals.{not_outside, on_accept_accepted}
+use Rattle.ring.specs.Vectors.{tabulate, in_front, Filling}
+use Rattle.ring.specs.Laws.Refusals.{not_outside}
 use Rattle.ring.specs.Laws.Answers.{when_ok, when_refused}
-use Rattle.ring.specs.Laws.Vectors.{length_tabulate, length_in_front}
-use Rattle.diagonals.specs.Maps.{offsets_of, offset_at, view}
-use Rattle.diagonals.specs.Calls.{map_refusal, Judged, indexes_refusal, Indexes}
-use Rattle.diagonals.specs.Laws.Calls.{judged_none, then_later}
-use Rattle.diagonals.specs.Laws.Maps.{offsets_view, count_low}
-use Rattle.diagonals.specs.Laws.Reading.{accepted_range, accepted_formed}
+use Rattle.ring.specs.Laws.Vectors.{length_tabulate, filled_front}
+use Rattle.diagonals.specs.declared.map.Map.{Map}
+use Rattle.diagonals.specs.Maps.{offset_at}
+use Rattle.diagonals.specs.Laws.Maps.{offsets_view}
+use Rattle.diagonals.specs.Laws.Words.{formed_view}
 use Rattle.linear_transformation.specs.declared.LinearTransformationStrategy.{LinearTransformationStrategy}
+use Rattle.linear_transformation.specs.declared.LinearTransformationStrategy.TheVariants.{Bsgs, BsgsPowersOfTwo, Direct}
 use Rattle.linear_transformation.specs.declared.stored.Needs.{Needs}
 use Rattle.linear_transformation.specs.Strategies.{width_outside}
 use Rattle.linear_transformation.specs.Plans.{Distinct}
-use Rattle.linear_transformation.specs.Schedules.{plan_keys}
-use Rattle.linear_transformation.specs.Stored.{is_missing, needs_refusal, needs_of, plan_needs}
+use Rattle.linear_transformation.specs.Stored.{needs_refusal, needs_of, plan_needs}
 use Rattle.linear_transformation.specs.Laws.Stored.{distinct_rise}
+use Rattle.runs.specs.declared.surveying.Asked.{Asked}
 use Rattle.runs.specs.declared.surveying.Survey.{Survey}
 use Rattle.runs.specs.Laws.Plans.{map_distinct}
-use Rattle.runs.specs.Steps.Surveys.{powers_by, survey_refusal, takes, Taken, Surveyed}
-use Rattle.runs.proofs.Accepted.{given}
+use Rattle.runs.specs.Steps.Surveys.{stored_in, offsets_in, powers_by, survey_refusal, takes, SurveyedOf}
+use Rattle.runs.proofs.Entries.{map_range, map_formed}
 
 -- the survey that a plan's needs become
 abbrev pub survey_from : LinearTransformationStrategy → ℕ → Needs → Survey
@@ -35,79 +33,66 @@ needs_surveyed : (slots : ℕ) (strategy : LinearTransformationStrategy) (ks : L
 unfolding takes
 needs_surveyed slots strategy ks count = refl
 
-module _ {slots count : ℕ} {pairs values : List ℕ} {code : Result Unit Refusal} (j : Judged slots count pairs values code) (input : List ℕ) (strategy : LinearTransformationStrategy) (held : List ℕ) where
+-- a strategy that is not by powers of two
+pub powers_else : (strategy : LinearTransformationStrategy) (step bits : ℕ) → ((width : ℕ) → strategy ≡ BsgsPowersOfTwo width → ⊥) → powers_by strategy step bits ≡ None
+powers_else (Bsgs width) step bits h = refl
+powers_else (BsgsPowersOfTwo width) step bits h = absurd (h width refl)
+powers_else Direct step bits h = refl
+
+-- the offsets of an accepted map
+module _ (m : Map) where
+  pub offsets_are : offsets_in m ≡ tabulate m.count (offset_at m.pairs.now)
+  offsets_are = offsets_view m.count m.pairs.now m.values.now
+
+  pub offsets_many : length (offsets_in m) ≡ m.count
+  offsets_many = ap length offsets_are ∙ length_tabulate m.count (offset_at m.pairs.now)
+
+  pub offsets_distinct : Distinct m.slots (offsets_in m)
+  offsets_distinct = map_distinct m.slots (map_range m).low (stored_in m) (formed_view m.slots m.count m.pairs.now m.values.now (map_formed m))
+
+module _ (a : Asked) where
+  abbrev slots : ℕ
+  slots = a.map.slots
+
   abbrev ks : List ℕ
-  ks = offsets_of (view count pairs values)
+  ks = offsets_in a.map
 
-  abbrev later : List (Bool × Refusal)
-  later = (width_outside strategy, OutOfRange) ∷ (not (eqb (length input) slots), Length) ∷ (is_missing held (plan_keys slots strategy ks), Key) ∷ []
+  abbrev refusal : Option Refusal
+  refusal = survey_refusal slots ks a.input.now a.strategy a.held.now
 
-  refused_by : {e : Refusal} {old new : List ℕ} → survey_refusal slots count pairs values input strategy held ≡ Some e → length new ≡ length old → Surveyed slots count pairs values input strategy held old new (Err e)
+  pub refused_by : {e : Refusal} {old new : List ℕ} → refusal ≡ Some e → length new ≡ length old → SurveyedOf a old new (Err e)
   refused_by s l = record { answer = rw s refl; taken = λ z. no_none (sym s ∙ z); listed = λ z. no_none (sym s ∙ z); len = l }
     where
       no_none : {X : Type 0} {e : Refusal} → Some e ≡ None → X
       no_none q = cc
 
-  module _ (h : code ≡ Ok tt) where
-    by_later : {e : Option Refusal} → first_refusal later ≡ e → survey_refusal slots count pairs values input strategy held ≡ e
-    by_later e = then_later j later h ∙ e
+  module _ (w : width_outside a.strategy ≡ false) (i : length a.input.now ≡ slots) {old mid : List ℕ} {n : ℕ} (f : Filling (offset_at a.map.pairs.now) old mid n) (all : n ≡ a.map.count) where
+    mid_is : mid ≡ in_front ks old
+    mid_is = f.so_far ∙ rw all (filled_front (offset_at a.map.pairs.now) a.map.count old) ∙ ap (λ (x : List ℕ). in_front x old) (sym (offsets_are a.map))
 
-    module _ (w : width_outside strategy ≡ false) where
-      module _ (i : length input ≡ slots) where
-        refusal : map_refusal slots count pairs values ≡ None
-        refusal = judged_none j.answer h
+    front : take a.map.count mid ≡ ks
+    unfolding in_front
+    front = rw mid_is (take_at ks (drop (length ks) old) a.map.count (offsets_many a.map))
 
-        range : Range slots
-        range = accepted_range slots count pairs values refusal
+    survey_needs : refusal ≡ needs_refusal slots a.strategy ks a.held.now
+    survey_needs = let r = map_range a.map in rw (not_outside slots r.low r.high, distinct_rise slots ks (offsets_distinct a.map), w, eq-eqb (length a.input.now) slots i) refl
 
-        all_taken : Taken slots count pairs values input strategy
-        all_taken = record { range = range; formed = j.formed h; width = w; whole = i }
+    module _ {v : Result Needs Refusal} (p : v ≡ plan_needs (needs_refusal slots a.strategy (take a.map.count mid) a.held.now) slots a.strategy (take a.map.count mid)) where
+      pub needs_refused : {e : Refusal} → v ≡ Err e → SurveyedOf a old mid (Err e)
+      unfolding plan_needs
+      needs_refused {e} q =
+          let s : needs_refusal slots a.strategy ks a.held.now ≡ Some e = rw (← front) (when_refused _ _ e (sym q ∙ p)) in
+          refused_by (survey_needs ∙ s) f.len
 
-        distinct : Distinct slots ks
-        distinct = map_distinct slots range.low (view count pairs values) (accepted_formed slots count pairs values refusal)
-
-        offsets_many : length ks ≡ count
-        offsets_many = ap length (offsets_view count pairs values) ∙ length_tabulate count (offset_at pairs)
-
-        pub few : count ≤ 65536
-        few = omega (arith, count_low (j.formed h), range.high)
-
-        module _ {old mid : List ℕ} {a : Result ℕ Refusal} (size : min count 65536 ≤ length old) (x : Indexes slots count pairs values old mid a) where
-          room : indexes_refusal slots count pairs values old ≡ None
-          room = then_later j ((ltb (length old) count, Room) ∷ []) h ∙ rw (le-ltb (length old) count (omega (arith, few)))
-
-          pub mid_given : IsOk a
-          mid_given = given _ _ x.answer room
-
-          mid_is : mid ≡ in_front ks old
-          mid_is = x.out ∙ on_accept_accepted _ _ _ room
-
-          pub mid_length : length mid ≡ length old
-          mid_length = ap length mid_is ∙ length_in_front ks old (omega (arith, offsets_many, few))
-
-          front : take count mid ≡ ks
-          unfolding in_front
-          front = rw mid_is (take_at ks (drop (length ks) old) count offsets_many)
-
-          survey_needs : survey_refusal slots count pairs values input strategy held ≡ needs_refusal slots strategy ks held
-          survey_needs = by_later (rw (not_outside slots range.low range.high, distinct_rise slots ks distinct, w, eq-eqb (length input) slots i) refl)
-
-          module _ {n : Result Needs Refusal} (p : n ≡ plan_needs (needs_refusal slots strategy (take count mid) held) slots strategy (take count mid)) where
-            pub needs_refused : {e : Refusal} → n ≡ Err e → Surveyed slots count pairs values input strategy held old mid (Err e)
-            unfolding plan_needs
-            needs_refused {e} q =
-                let s : needs_refusal slots strategy ks held ≡ Some e = rw (← front) (when_refused _ _ e (sym q ∙ p)) in
-                refused_by (survey_needs ∙ s) mid_length
-
-            pub survey_done : {v : Needs} → n ≡ Ok v → Surveyed slots count pairs values input strategy held old mid (Ok (survey_from strategy count v))
-            unfolding plan_needs
-            survey_done {v} q =
-                let s = when_ok _ _ v (sym q ∙ p) in
-                let none : survey_refusal slots count pairs values input strategy held ≡ None = survey_needs ∙ rw (← front) s.0 in
-                let v_is : v ≡ needs_of slots strategy ks = rw (← front) s.1 in
-                record {
-                  answer = ap (λ (u : Needs). Ok (survey_from strategy count u)) v_is ∙ ap Ok (needs_surveyed slots strategy ks count) ∙ rw none refl;
-                  taken = λ z. all_taken;
-                  listed = λ z. mid_is;
-                  len = mid_length;
-                }
+      pub survey_done : {u : Needs} → v ≡ Ok u → SurveyedOf a old mid (Ok (survey_from a.strategy a.map.count u))
+      unfolding plan_needs
+      survey_done {u} q =
+          let s = when_ok _ _ u (sym q ∙ p) in
+          let none : refusal ≡ None = survey_needs ∙ rw (← front) s.0 in
+          let u_is : u ≡ needs_of slots a.strategy ks = rw (← front) s.1 in
+          record {
+            answer = ap (λ (x : Needs). Ok (survey_from a.strategy a.map.count x)) u_is ∙ ap Ok (needs_surveyed slots a.strategy ks a.map.count) ∙ rw none refl;
+            taken = λ z. record { width = w; whole = i };
+            listed = λ z. mid_is;
+            len = f.len;
+          }

@@ -1,7 +1,7 @@
 -- The giant switches of a plan: by their own rotations, or by the pairs of the tree; they are the first switches of the
 -- schedule.
 -- Assumes nothing.
-use Rattle.std.proofs.Common.{◌≡◌, ℕ, ◌-◌, ◌*◌, ◌^◌, ◌<◌, ◌≤◌, List, length, take, sym, refl, ap, ◌∙◌, arith}
+use Rattle.std.proofs.Common.{◌≡◌, ℕ, ◌+◌, ◌-◌, ◌*◌, ◌^◌, ◌<◌, ◌≤◌, false, List, map, length, take, sym, refl, ap, ◌∙◌, arith}
 use Rattle.ring.specs.Vectors.{tabulate}
 use Rattle.ring.specs.Laws.Vectors.{map_tabulate}
 use Rattle.linear_transformation.specs.declared.LinearTransformationStrategy.{LinearTransformationStrategy}
@@ -19,9 +19,27 @@ use Rattle.ring.specs.Lists.{Rising}
 use Rattle.ring.specs.Refusals.{Range}
 use Rattle.linear_transformation.specs.Schedules.{plan_giants}
 use Rattle.runs.specs.Steps.Giants.{turn_at, leaves_of, starts, join_by, join_at, TurnsAsked, GiantsTurned, PairsAsked, PairsJoined}
-use Rattle.runs.specs.Steps.Runs.{TurningAsked, NodesTurned}
+use Rattle.ring.specs.Slots.{modulus}
+use Rattle.ring.specs.Vectors.{put_at}
+use Rattle.linear_transformation.specs.Strategies.{width_outside}
+use Rattle.linear_transformation.specs.Plans.{Distinct}
+use Rattle.runs.specs.Steps.Keyed.{nodes_by}
 use Rattle.runs.proofs.FromGiants as Own
 use Rattle.runs.proofs.FromPairs as Pairs
+
+-- the first `made` switches of the giants gs of a plan, by the map's offsets ks
+pub record Turning (strategy : LinearTransformationStrategy) (made slots : ℕ) (ks gs nodes log : List ℕ) (logged : ℕ) : Type 0 where
+  pub range : Range slots
+  pub width : width_outside strategy ≡ false
+  pub distinct : Distinct slots ks
+  pub giants_are : gs ≡ plan_giants slots strategy ks
+  pub few : made ≤ length (giant_schedule slots strategy ks)
+  pub room : length gs * slots ≤ length nodes
+  pub log_room : logged + made ≤ length log
+
+pub record Turned (strategy : LinearTransformationStrategy) (made slots : ℕ) (ks nodes nodes' log log' : List ℕ) (logged : ℕ) : Type 0 where
+  pub turned : nodes' ≡ nodes_by modulus slots nodes (take made (giant_schedule slots strategy ks))
+  pub logs : log' ≡ put_at logged (map rotation_of (take made (giant_schedule slots strategy ks))) log
 
 -- ---- whether it is by powers of two
 
@@ -41,7 +59,7 @@ some_powers slots (BsgsPowersOfTwo width) ks p e = (step_positive slots width ks
 some_powers slots Direct ks p e = cc
 
 -- each by its own rotation
-module _ {strategy : LinearTransformationStrategy} {made slots : ℕ} {ks gs nodes log : List ℕ} {logged : ℕ} (a : TurningAsked strategy made slots ks gs nodes log logged) {powers : Option Powers} {turns : ℕ} (e : powers ≡ powers_of slots strategy ks) (n : turns ≡ length (giant_schedule slots strategy ks)) (z : powers ≡ None) where
+module _ {strategy : LinearTransformationStrategy} {made slots : ℕ} {ks gs nodes log : List ℕ} {logged : ℕ} (a : Turning strategy made slots ks gs nodes log logged) {powers : Option Powers} {turns : ℕ} (e : powers ≡ powers_of slots strategy ks) (n : turns ≡ length (giant_schedule slots strategy ks)) (z : powers ≡ None) where
   own : step_of slots strategy ks ≡ 0
   own = no_powers slots strategy ks (sym e ∙ z)
 
@@ -51,14 +69,14 @@ module _ {strategy : LinearTransformationStrategy} {made slots : ℕ} {ks gs nod
   pub turns_asked : TurnsAsked gs (length gs - turns) made slots nodes log logged
   turns_asked = rw (a.giants_are, n) (Own.turns_of slots strategy ks own made a.few nodes log logged (rw (← a.giants_are) a.room) a.log_room)
 
-  pub turned_own : {nodes' log' : List ℕ} → GiantsTurned gs (length gs - turns) made slots nodes nodes' log log' logged → NodesTurned strategy made slots ks nodes nodes' log log' logged
+  pub turned_own : {nodes' log' : List ℕ} → GiantsTurned gs (length gs - turns) made slots nodes nodes' log log' logged → Turned strategy made slots ks nodes nodes' log log' logged
   turned_own t = record { turned = t.turned ∙ rw switches; logs = t.logs ∙ rw (← map_tabulate rotation_of made (turn_at gs (length gs - turns)), switches) }
     where
       switches : tabulate made (turn_at gs (length gs - turns)) ≡ take made (giant_schedule slots strategy ks)
       switches = rw (a.giants_are, n) (Own.giants_by slots strategy ks own made a.few)
 
 -- with powers of two
-module _ {strategy : LinearTransformationStrategy} {made slots : ℕ} {ks gs nodes log : List ℕ} {logged : ℕ} (a : TurningAsked strategy made slots ks gs nodes log logged) {powers : Option Powers} {p : Powers} (e : powers ≡ powers_of slots strategy ks) (z : powers ≡ Some p) where
+module _ {strategy : LinearTransformationStrategy} {made slots : ℕ} {ks gs nodes log : List ℕ} {logged : ℕ} (a : Turning strategy made slots ks gs nodes log logged) {powers : Option Powers} {p : Powers} (e : powers ≡ powers_of slots strategy ks) (z : powers ≡ Some p) where
   some : 1 ≤ step_of slots strategy ks
   some = (some_powers slots strategy ks p (sym e ∙ z)).0
 
@@ -95,7 +113,7 @@ module _ {strategy : LinearTransformationStrategy} {made slots : ℕ} {ks gs nod
           few : made ≤ length (starts (leaves_by slots (width_of strategy) (2 ^ p.bits) (plan_giants slots strategy ks)) (length (plan_giants slots strategy ks)) p.bits) → made ≤ length (starts (leaves_of t) (length t.giants.now) t.bits)
           few h = let e : length (starts (leaves_of t) (length t.giants.now) t.bits) ≡ length (starts (leaves_by slots (width_of strategy) (2 ^ p.bits) (plan_giants slots strategy ks)) (length (plan_giants slots strategy ks)) p.bits) = cc (g, w, s, q, a.giants_are, v) in omega (arith, e, h)
 
-      pub turned_pairs : {nodes' log' : List ℕ} → PairsJoined t made nodes nodes' log log' logged → NodesTurned strategy made slots ks nodes nodes' log log' logged
+      pub turned_pairs : {nodes' log' : List ℕ} → PairsJoined t made nodes nodes' log log' logged → Turned strategy made slots ks nodes nodes' log log' logged
       turned_pairs j = record { turned = j.joined_all ∙ cc (s, switches); logs = j.logs ∙ rw (← map_tabulate rotation_of made (join_at t), switches) }
         where
           switches : tabulate made (join_at t) ≡ take made (giant_schedule slots strategy ks)

@@ -26,7 +26,7 @@ use Rattle.runs.specs.Steps.Keyed.{TurnAsked, AddTurn}
 use Rattle.runs.proofs.TwoRuns.{apart}
 use Rattle.runs.specs.declared.tree.Tree.{Tree}
 use Rattle.runs.specs.Steps.Leaves.{leaf_by}
-use Rattle.runs.specs.Steps.Giants.{leaf_or_none, leaves_of, NodeAsked, node_at, starts_pair, has_even, PlaceAsked, PairAsked, PairJoined}
+use Rattle.runs.specs.Steps.Giants.{leaf_or_zero, leaves_of, NodeAsked, node_at, starts_pair, has_even, PlaceAsked, PairAsked, PairJoined}
 use Rattle.ring.specs.Laws.Refusals.{on_accept_accepted}
 use Rattle.std.specs.List.Sorted.{IsPartitionPoint, IsNonDecreasingBy}
 use Rattle.std.proofs.lemmas.Bool.{ltb-true}
@@ -46,7 +46,7 @@ module _ (t : Tree) where
     refusal = digit_refusal t.slots t.width (pos g)
 
   -- a giant of the plan
-  own_leaf : (g : ℕ) → (g < t.slots) × (g % t.width ≡ 0) → leaf_or_none t g ≡ leaf_by t.slots t.width (2 ^ t.bits) g
+  own_leaf : (g : ℕ) → (g < t.slots) × (g % t.width ≡ 0) → leaf_or_zero t g ≡ leaf_by t.slots t.width (2 ^ t.bits) g
   own_leaf g is =
       let own : residue_of (pos g) t.slots ≡ g = residue_pos g t.slots some_slots ∙ mod-eq_of_lt is.0 in
       let none : refusal g ≡ None = rw (not_outside t.slots some_slots t.slots_range.high, not_outside t.width t.width_range.low t.width_range.high, own, eq-eqb (g % t.width) 0 is.1) in
@@ -55,7 +55,7 @@ module _ (t : Tree) where
   leaves_many : length (leaves_of t) ≡ length t.giants.now
   leaves_many = length-map t.giants.now (leaf_by t.slots t.width (2 ^ t.bits))
 
-  leaf_there : (place : ℕ) → place < length t.giants.now → leaf_or_none t (get_or t.giants.now place 0) ≡ get_or (leaves_of t) place 0
+  leaf_there : (place : ℕ) → place < length t.giants.now → leaf_or_zero t (get_or t.giants.now place 0) ≡ get_or (leaves_of t) place 0
   leaf_there place l =
       own_leaf (get_or t.giants.now place 0) (each_at (λ g. (g < t.slots) × (g % t.width ≡ 0)) t.giants.now 0 t.giants_each place l)
       ∙ sym (mapped_at (leaf_by t.slots t.width (2 ^ t.bits)) t.giants.now place 0 0 l)
@@ -66,13 +66,13 @@ module _ (t : Tree) where
       (omega (arith, residue_lt (digit t.slots t.width (record { 0 = get_or t.giants.now place 0 })).0 (2 ^ t.bits) (pow_pos t.bits), pow_mono {i = t.bits} {j = 16} t.bits_low))
 
   -- they do not fall
-  pub leaves_order : IsNonDecreasingBy (λ g. suc (leaf_or_none t g)) t.giants.now
+  pub leaves_order : IsNonDecreasingBy (λ g. suc (leaf_or_zero t g)) t.giants.now
   leaves_order i j d l m = by (ℕ_discrete i j)
     where
-      word : (i : ℕ) → i < length t.giants.now → suc (leaf_or_none t (slice_index_or t.giants.now i d)) ≡ suc (get_or (leaves_of t) i 0)
-      word i h = ap suc (ap (leaf_or_none t) (get_or_default t.giants.now i d 0 h) ∙ leaf_there i h)
+      word : (i : ℕ) → i < length t.giants.now → suc (leaf_or_zero t (slice_index_or t.giants.now i d)) ≡ suc (get_or (leaves_of t) i 0)
+      word i h = ap suc (ap (leaf_or_zero t) (get_or_default t.giants.now i d 0 h) ∙ leaf_there i h)
 
-      by : Dec (i ≡ j) → suc (leaf_or_none t (slice_index_or t.giants.now i d)) ≤ suc (leaf_or_none t (slice_index_or t.giants.now j d))
+      by : Dec (i ≡ j) → suc (leaf_or_zero t (slice_index_or t.giants.now i d)) ≤ suc (leaf_or_zero t (slice_index_or t.giants.now j d))
       by (yes e) = rw e (omega arith)
       by (no n) = rw (word i (omega arith), word j m) (omega (arith, rising_at (leaves_of t) 0 t.leaves_rise i j (omega arith) (omega (arith, leaves_many))))
 
@@ -90,7 +90,7 @@ module _ {t : Tree} {level node : ℕ} (a : NodeAsked t level node) where
   under = (le-div_iff_mul-le (pow_pos level)).0 (omega (arith, first.under))
 
   -- where the leaves below the first under the node end
-  pub point_is_place : {x r : ℕ} → x ≡ node * 2 ^ level → IsPartitionPoint (λ g. ltb (leaf_or_none t g) x ≡ true) (λ g. ltb (leaf_or_none t g) x ≡ false) t.giants.now r → r ≡ place
+  pub point_is_place : {x r : ℕ} → x ≡ node * 2 ^ level → IsPartitionPoint (λ g. ltb (leaf_or_zero t g) x ≡ true) (λ g. ltb (leaf_or_zero t g) x ≡ false) t.giants.now r → r ≡ place
   point_is_place {x} {r} e p = by (dec_lt r place) (ℕ_discrete r place)
     where
       inside : place < length t.giants.now
@@ -98,14 +98,14 @@ module _ {t : Tree} {level node : ℕ} (a : NodeAsked t level node) where
 
       by : Dec (r < place) → Dec (r ≡ place) → r ≡ place
       by (yes q) d =
-          absurd (omega (arith, e, (div-lt_iff_lt-mul (pow_pos level)).0 (first.before r q), leaf_there t r (omega (arith, inside)), ltb-false (leaf_or_none t (get_or t.giants.now r 0)) x (p.1 r 0 (omega arith) (omega (arith, inside)))))
+          absurd (omega (arith, e, (div-lt_iff_lt-mul (pow_pos level)).0 (first.before r q), leaf_there t r (omega (arith, inside)), ltb-false (leaf_or_zero t (get_or t.giants.now r 0)) x (p.1 r 0 (omega arith) (omega (arith, inside)))))
       by (no q) (yes d) = d
-      by (no q) (no d) = absurd (omega (arith, e, under, leaf_there t place inside, ltb-true (leaf_or_none t (get_or t.giants.now place 0)) x (p.0 place 0 (omega arith) (omega arith))))
+      by (no q) (no d) = absurd (omega (arith, e, under, leaf_there t place inside, ltb-true (leaf_or_zero t (get_or t.giants.now place 0)) x (p.0 place 0 (omega arith) (omega arith))))
 
 -- ---- a place of a level
 
 module _ {t : Tree} {level place : ℕ} (a : PlaceAsked t level place) where
-  pub node_is : {l : ℕ} → l ≡ leaf_or_none t (get_or t.giants.now place 0) → l / 2 ^ level ≡ node_at (leaves_of t) level place
+  pub node_is : {l : ℕ} → l ≡ leaf_or_zero t (get_or t.giants.now place 0) → l / 2 ^ level ≡ node_at (leaves_of t) level place
   node_is e = ap (λ (x : ℕ). x / 2 ^ level) (e ∙ leaf_there t place a.inside)
 
   pub node_small : node_at (leaves_of t) level place < 65536

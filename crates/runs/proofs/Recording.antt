@@ -10,8 +10,10 @@ use Rattle.std.specs.Prelude.{Option, None, Result, Ok, Err, IsOk}
 use Rattle.ring.specs.Vectors.{in_front}
 use Rattle.ring.specs.Laws.Refusals.{on_accept_accepted, none_holds}
 use Rattle.ring.specs.Laws.Answers.{when_ok, when_refused}
-use Rattle.diagonals.specs.Maps.{Diagonal, offsets_of, view}
-use Rattle.diagonals.specs.Calls.{map_refusals}
+use Rattle.diagonals.specs.declared.map.Map.{Map}
+use Rattle.diagonals.specs.Maps.{Diagonal, view}
+use Rattle.diagonals.specs.Calls.{SameParts}
+use Rattle.diagonals.specs.Laws.Calls.{same_outside, same_formed}
 use Rattle.linear_transformation.specs.declared.LinearTransformationStrategy.{LinearTransformationStrategy}
 use Rattle.linear_transformation.specs.declared.LinearTransformationStrategy.TheVariants.{Bsgs, BsgsPowersOfTwo, Direct}
 use Rattle.linear_transformation.specs.declared.records.PairRecord.{PairRecord}
@@ -21,10 +23,13 @@ use Rattle.linear_transformation.specs.Schedules.{plan_giants}
 use Rattle.linear_transformation.specs.Stored.{is_missing, pair_count, plan_records, stored_refusals, PlanRecordsWritten}
 use Rattle.linear_transformation.specs.Laws.Records.{giants_offsets, records_again, count_again}
 use Rattle.runs.specs.declared.keyed.Progress.{Progress}
+use Rattle.runs.specs.declared.surveying.Asked.{Asked}
+use Rattle.runs.specs.declared.surveying.Words.{Words}
 use Rattle.runs.specs.Keyed.{Lent, lent, keyed_room, keyed_refusal, keyed_progress, keyed_left, KeyedRun}
 use Rattle.runs.specs.Plans.{map_keys}
 use Rattle.runs.specs.Laws.PlanWords.{giants_read}
-use Rattle.runs.specs.Steps.Ready.{keyed_records, CoreRun}
+use Rattle.runs.specs.Steps.Surveys.{stored_in, offsets_in}
+use Rattle.runs.specs.Steps.Ready.{with_records, run_refusal, RunDone, DoneOf, run_records, CoreRun}
 use Rattle.runs.proofs.Accepted.{given}
 
 -- over a plan's giants, the plan's records
@@ -55,62 +60,75 @@ pub as_left : {slots count : ℕ} {pairs values input : List ℕ} {strategy : Li
     → KeyedRun slots count pairs values input strategy held n old (lent plan' records cache' nodes' log' out') r
 as_left k p c n l o = rw (p, c, n, l, o) k
 
-module _ (slots count : ℕ) (pairs values input : List ℕ) (strategy : LinearTransformationStrategy) (held : List ℕ) (n : ℕ) where
+-- the run of an accepted map, by the parts that the call lent
+module _ {slots count : ℕ} {pairs values : List ℕ} (m : Map) (e : SameParts slots count pairs values m.slots m.count m.pairs.now m.values.now) where
   abbrev ds : List Diagonal
   ds = view count pairs values
 
+  refusal_is : (strategy : LinearTransformationStrategy) (input held : List ℕ) (words : Lent) → run_refusal m.slots strategy (stored_in m) input held words ≡ keyed_refusal slots count pairs values input strategy held words
+  refusal_is strategy input held words = rw (same_outside e m.in_range, same_formed e m.formed, e.slots_is, e.count_is, e.pairs_is, e.values_is) refl
+
+  pub keyed_of : {strategy : LinearTransformationStrategy} {input held : List ℕ} {n : ℕ} {old new : Lent} {r : Result Progress Refusal} → RunDone m.slots strategy (stored_in m) input held n old new r → KeyedRun slots count pairs values input strategy held n old new r
+  keyed_of {strategy} {input} {held} {n} {old} d =
+      record {
+        answer = d.answer ∙ rw (refusal_is strategy input held old, e.slots_is, e.count_is, e.pairs_is, e.values_is) refl;
+        words = d.words ∙ rw (refusal_is strategy input held old, e.slots_is, e.count_is, e.pairs_is, e.values_is) refl;
+      }
+
+module _ (a : Asked) (n : ℕ) where
+  abbrev slots : ℕ
+  slots = a.map.slots
+
+  abbrev strategy : LinearTransformationStrategy
+  strategy = a.strategy
+
   abbrev ks : List ℕ
-  ks = offsets_of ds
+  ks = offsets_in a.map
 
-  -- what an accepted run tells of its records
-  pub record Fit (old : Lent) : Type 0 where
-    pub inside : outside slots ≡ false
-    pub width : width_outside strategy ≡ false
-    pub room : pair_count slots strategy ks ≤ length old.records
-
-  fit : (old : Lent) → keyed_refusal slots count pairs values input strategy held old ≡ None → Fit old
+  -- what an accepted run tells of its width and its records
+  fit : (old : Lent) → run_refusal slots strategy (stored_in a.map) a.input.now a.held.now old ≡ None → (width_outside strategy ≡ false) × (pair_count slots strategy ks ≤ length old.records)
   fit old e =
       let tests : List (Bool × Refusal) =
-      map_refusals slots count pairs values
-      ++ (width_outside strategy, OutOfRange)
-      ∷ (not (eqb (length input) slots), Length)
-      ∷ (is_missing held (map_keys slots strategy ds), Key)
-      ∷ keyed_room slots strategy ds old in
+      (width_outside strategy, OutOfRange)
+      ∷ (not (eqb (length a.input.now) slots), Length)
+      ∷ (is_missing a.held.now (map_keys slots strategy (stored_in a.map)), Key)
+      ∷ keyed_room slots strategy (stored_in a.map) old in
       let c = none_holds tests e in
-      record { inside = c.0; width = c.1.1.0; room = ltb-false _ _ c.1.1.1.1.1.1.0 }
+      (c.0, ltb-false _ _ c.1.1.1.1.0)
 
-  module _ (records : List PairRecord) {plan plan' cache cache' nodes nodes' log log' out out' : List ℕ} {r : Result Progress Refusal}
-      (c : CoreRun slots count pairs values input strategy held n (length records) plan plan' cache cache' nodes nodes' log log' out out' r) where
+  module _ (records : List PairRecord) {before after : Words} {r : Result Progress Refusal} (c : CoreRun a n (length records) before after r) where
     abbrev old : Lent
-    old = lent plan records cache nodes log out
+    old = with_records before records
 
     abbrev refusal : Option Refusal
-    refusal = keyed_refusal slots count pairs values input strategy held old
+    refusal = run_refusal slots strategy (stored_in a.map) a.input.now a.held.now old
 
-    core : KeyedRun slots count pairs values input strategy held n old (lent plan' (keyed_records slots count pairs values input strategy held old) cache' nodes' log' out') r
+    core : DoneOf a n old (with_records after (run_records a old)) r
     core = c.run records refl
 
     -- with the records that it says
-    with_records : (records' : List PairRecord) → records' ≡ keyed_records slots count pairs values input strategy held old → KeyedRun slots count pairs values input strategy held n old (lent plan' records' cache' nodes' log' out') r
-    with_records records' e = subst (λ (l : List PairRecord). KeyedRun slots count pairs values input strategy held n old (lent plan' l cache' nodes' log' out') r) (sym e) core
+    with_these : (records' : List PairRecord) → records' ≡ run_records a old → DoneOf a n old (with_records after records') r
+    with_these records' e = subst (λ (l : List PairRecord). DoneOf a n old (with_records after l) r) (sym e) core
 
-    pub refused_recorded : {e : Refusal} → r ≡ Err e → KeyedRun slots count pairs values input strategy held n old (lent plan' records cache' nodes' log' out') r
-    refused_recorded {e} h = with_records records (rw (when_refused refusal _ e (sym h ∙ core.answer)) refl)
+    pub refused_recorded : {e : Refusal} → r ≡ Err e → DoneOf a n old (with_records after records) r
+    refused_recorded {e} h = with_these records (rw (when_refused refusal _ e (sym h ∙ core.answer)) refl)
 
     module _ {p : Progress} (h : r ≡ Ok p) where
-      accepted : (refusal ≡ None) × (p ≡ keyed_progress slots strategy ds n)
+      accepted : (refusal ≡ None) × (p ≡ keyed_progress slots strategy (stored_in a.map) n)
       accepted = when_ok refusal _ p (sym h ∙ core.answer)
 
-      plan_read : take p.giants (drop p.babies plan') ≡ plan_giants slots strategy ks
+      plan_read : take p.giants (drop p.babies after.plan.now) ≡ plan_giants slots strategy ks
       unfolding keyed_progress keyed_left
-      plan_read = rw accepted.1 (giants_read slots strategy ks plan' plan (ap (λ (l : Lent). l.plan) (core.words ∙ on_accept_accepted _ _ _ accepted.0)))
+      plan_read = rw accepted.1 (giants_read slots strategy ks after.plan.now before.plan.now (ap (λ (l : Lent). l.plan) (core.words ∙ on_accept_accepted _ _ _ accepted.0)))
 
-      module _ (records' : List PairRecord) (t : Result (Option TreeSizes) Refusal) {read : List ℕ} (same : read ≡ plan') (w : PlanRecordsWritten slots strategy (take p.giants (drop p.babies read)) records records' t) where
+      module _ (records' : List PairRecord) (t : Result (Option TreeSizes) Refusal) {slots' : ℕ} (s : slots ≡ slots') {read : List ℕ} (same : read ≡ after.plan.now) (w : PlanRecordsWritten slots' strategy (take p.giants (drop p.babies read)) records records' t) where
         over_giants : PlanRecordsWritten slots strategy (plan_giants slots strategy ks) records records' t
-        over_giants = subst (λ (g : List ℕ). PlanRecordsWritten slots strategy g records records' t) (ap (λ (v : List ℕ). take p.giants (drop p.babies v)) same ∙ plan_read) w
+        over_giants =
+            subst (λ (g : List ℕ). PlanRecordsWritten slots strategy g records records' t) (ap (λ (v : List ℕ). take p.giants (drop p.babies v)) same ∙ plan_read)
+            (subst (λ (x : ℕ). PlanRecordsWritten x strategy (take p.giants (drop p.babies read)) records records' t) (sym s) w)
 
         pub records_given : IsOk t
-        records_given = let f = fit old accepted.0 in giants_given slots ks records records' t f.inside strategy f.width f.room over_giants
+        records_given = let f = fit old accepted.0 in giants_given slots ks records records' t a.map.in_range strategy f.0 f.1 over_giants
 
-        pub keyed_recorded : KeyedRun slots count pairs values input strategy held n old (lent plan' records' cache' nodes' log' out') r
-        keyed_recorded = let f = fit old accepted.0 in with_records records' (giants_written slots ks records records' t f.inside strategy f.width f.room over_giants ∙ sym (on_accept_accepted refusal _ _ accepted.0))
+        pub keyed_recorded : DoneOf a n old (with_records after records') r
+        keyed_recorded = let f = fit old accepted.0 in with_these records' (giants_written slots ks records records' t a.map.in_range strategy f.0 f.1 over_giants ∙ sym (on_accept_accepted refusal _ _ accepted.0))

@@ -1,24 +1,26 @@
 -- The run by a plan that is written: what its parts ask follows from the plan, and what they leave is the machine's.
 -- Assumes nothing.
-use Rattle.std.proofs.Common.{◌≡◌, ℕ, zero, suc, ◌+◌, ◌-◌, ◌*◌, ◌<◌, ◌≤◌, min, List, [], ◌∷◌, ◌++◌, map, length, take, drop, sym, refl, ap, ◌∙◌, arith, length-take-le, take_all, le-ltb, lt-ltb}
+use Rattle.std.proofs.Common.{◌≡◌, ℕ, zero, suc, ◌+◌, ◌-◌, ◌*◌, ◌<◌, ◌≤◌, min, List, [], ◌∷◌, ◌++◌, map, length, take, drop, sym, ap, ◌∙◌, arith, length-take-le, take_all, le-ltb, lt-ltb}
 use native.Mathlib.Decide.{dec_lt}
 use Rattle.ring.specs.Slots.{modulus}
 use Rattle.ring.specs.Lists.{join}
 use Rattle.ring.specs.Refusals.{Range}
 use Rattle.ring.specs.Vectors.{in_front, put_at}
-use Rattle.diagonals.specs.Maps.{offsets_of, view}
+use Rattle.diagonals.specs.declared.map.Map.{Map}
 use Rattle.linear_transformation.specs.declared.LinearTransformationStrategy.{LinearTransformationStrategy}
 use Rattle.linear_transformation.specs.Plans.{Distinct, Planned, width_of, plan_pairs}
 use Rattle.linear_transformation.specs.Closures.{nonzeros}
 use Rattle.linear_transformation.specs.Schedules.{plan_babies, plan_giants, plan_words, plan_switches}
 use Rattle.std.specs.Prelude.{Option, None, Some}
+use Rattle.runs.specs.declared.run.Run.{Run}
+use Rattle.runs.specs.declared.surveying.Parts.{Parts}
 use Rattle.runs.specs.declared.surveying.Powers.{Powers}
+use Rattle.runs.specs.declared.surveying.Words.{Words}
 use Rattle.linear_transformation.specs.Laws.Plans.{width_positive, words_length}
 use Rattle.linear_transformation.specs.Laws.Runs.{planned_length, giants_few}
-use Rattle.diagonals.specs.Laws.Maps.{count_low}
 use Rattle.runs.specs.declared.surveying.Survey.{Survey}
-use Rattle.runs.specs.Switches.{rotation_of, baby_schedule, giant_schedule}
-use Rattle.runs.specs.Machines.{node_words, answer_of}
+use Rattle.runs.specs.Switches.{Switch, rotation_of, baby_schedule, giant_schedule}
+use Rattle.runs.specs.Machines.{answer_of}
 use Rattle.runs.specs.Laws.Answers.{length_answer}
 use Rattle.runs.specs.Laws.Caches.{cache_room}
 use Rattle.runs.specs.Laws.NodeRuns.{map_planned}
@@ -26,29 +28,30 @@ use Rattle.runs.specs.Laws.PassSchedules.{baby_count, giant_count}
 use Rattle.runs.specs.Laws.PlanWords.{babies_read, giants_read, pairs_read}
 use Rattle.runs.specs.Laws.Schedules.{plan_babies_front, plan_babies_rise, plan_babies_low}
 use Rattle.runs.specs.Steps.Nodes.{NodesAsked, NodesMade}
-use Rattle.runs.specs.Steps.Surveys.{powers_of, takes, Taken, Sized}
-use Rattle.runs.specs.Steps.Runs.{answer_by, TurningAsked, NodesTurned, RunAsked, turned_nodes, GiantsLeft}
+use Rattle.runs.specs.Steps.Surveys.{offsets_in, powers_of, takes, Cut, Sized}
+use Rattle.runs.specs.Steps.Runs.{answer_by, PlanWritten, RunAsked, nodes_in, first_turns, NodesTurned, turned_nodes, GiantsLeft}
+use Rattle.runs.proofs.Entries.{map_range, map_formed, map_few}
 use Rattle.runs.proofs.FromNodes.{nodes_of, nodes_made}
 use Rattle.runs.proofs.FromGiants as Own
 use Rattle.runs.proofs.FromPairs as Pairs
-use Rattle.runs.proofs.NodeTurning.{no_powers, some_powers}
+use Rattle.runs.proofs.NodeTurning.{no_powers, some_powers, Turning}
 
 -- ---- sizes
 
 -- the numbers of an accepted map's plan
-pub sized : {strategy : LinearTransformationStrategy} {survey : Survey} {count : ℕ} {pairs values input : List ℕ} (slots : ℕ) → Taken slots count pairs values input strategy → survey ≡ takes slots strategy (offsets_of (view count pairs values)) count → Sized survey slots
+pub sized : (m : Map) (strategy : LinearTransformationStrategy) {survey : Survey} → survey ≡ takes m.slots strategy (offsets_in m) m.count → Sized survey m.slots
 unfolding takes
-sized {strategy} {survey} {count} {pairs} {values} {input} slots t e =
-    let ks = offsets_of (view count pairs values) in
-    let bs : Planned slots 1 (plan_babies slots strategy ks) = record { rises = plan_babies_rise slots strategy ks; low = plan_babies_low slots strategy ks; positive = omega arith } in
-    let r = t.range in
+sized m strategy e =
+    let ks = offsets_in m in
+    let r = map_range m in
+    let bs : Planned m.slots 1 (plan_babies m.slots strategy ks) = record { rises = plan_babies_rise m.slots strategy ks; low = plan_babies_low m.slots strategy ks; positive = omega arith } in
     rw e
     (record {
       slots_low = r.high;
-      some = omega (arith, ap length (plan_babies_front slots r.high r.low strategy ks));
+      some = omega (arith, ap length (plan_babies_front m.slots r.high r.low strategy ks));
       babies_low = omega (arith, planned_length bs, r.high);
-      giants_low = omega (arith, giants_few slots (width_of strategy) ks, r.high);
-      diagonals_low = omega (arith, count_low t.formed, r.high);
+      giants_low = omega (arith, giants_few m.slots (width_of strategy) ks, r.high);
+      diagonals_low = map_few m;
     })
 
 -- the first n, or all where there are fewer
@@ -59,49 +62,78 @@ take_least xs n k e = by (dec_lt n (length xs))
     by (yes l) = ap (λ (x : ℕ). take x xs) (let q : k ≡ n = omega arith in q)
     by (no l) = take_all k xs (omega arith) ∙ sym (take_all n xs (omega arith))
 
-module _ {strategy : LinearTransformationStrategy} {survey : Survey} {offsets pairs values input plan cache nodes log out : List ℕ}
-    (a : RunAsked strategy survey offsets pairs values input plan cache nodes log out) where
+-- the buffers that were lent, with other words
+abbrev pub holding : Words → List ℕ → List ℕ → List ℕ → List ℕ → List ℕ → Words
+holding w plan cache nodes log out =
+    record {
+      plan = record { ref_ptr = w.plan.ref_ptr; ghost_name = w.plan.ghost_name; now = plan };
+      cache = record { ref_ptr = w.cache.ref_ptr; ghost_name = w.cache.ghost_name; now = cache };
+      nodes = record { ref_ptr = w.nodes.ref_ptr; ghost_name = w.nodes.ghost_name; now = nodes };
+      log = record { ref_ptr = w.log.ref_ptr; ghost_name = w.log.ghost_name; now = log };
+      out = record { ref_ptr = w.out.ref_ptr; ghost_name = w.out.ghost_name; now = out };
+    }
+
+-- as many words as before, with the same plan
+pub same_asked : {r : Run} {w : Words} → RunAsked r w → {cache nodes log : List ℕ} → length cache ≡ length w.cache.now → length nodes ≡ length w.nodes.now → length log ≡ length w.log.now → RunAsked r (holding w w.plan.now cache nodes log w.out.now)
+same_asked a c n l =
+    let d = a.written in
+    record {
+      written = record { old_plan = d.old_plan; plan_is = d.plan_is; plan_room = d.plan_room; cache_room = rw c d.cache_room; nodes_room = rw n d.nodes_room };
+      log_room = rw l a.log_room;
+      out_room = a.out_room;
+    }
+
+module _ {r : Run} {plan cache nodes : List ℕ} (d : PlanWritten r plan cache nodes) where
+  abbrev m : Map
+  m = r.asked.map
+
   abbrev slots : ℕ
-  slots = length input
+  slots = r.asked.map.slots
+
+  abbrev strategy : LinearTransformationStrategy
+  strategy = r.asked.strategy
+
+  abbrev survey : Survey
+  survey = r.survey
+
+  abbrev input : List ℕ
+  input = r.asked.input.now
 
   abbrev ks : List ℕ
-  ks = offsets_of (view survey.diagonals pairs values)
+  ks = offsets_in r.asked.map
 
-  range : Range slots
-  range = a.taken.range
+  pub range : Range slots
+  range = map_range m
 
   wide : 0 < width_of strategy
-  wide = width_positive strategy a.taken.width
+  wide = width_positive strategy r.width
 
-  planned : Planned slots (width_of strategy) ks
-  planned = map_planned a.taken.formed range.low strategy wide
+  pub planned : Planned slots (width_of strategy) ks
+  planned = map_planned (map_formed m) range.low strategy wide
 
-  distinct : Distinct slots ks
+  pub distinct : Distinct slots ks
   distinct = record { rises = planned.rises; low = planned.low }
 
   -- ---- the numbers
 
   pub babies_are : survey.babies ≡ length (plan_babies slots strategy ks)
   unfolding takes
-  babies_are = ap (λ (s : Survey). s.babies) a.survey_is
+  babies_are = ap (λ (s : Survey). s.babies) r.survey_is
 
-  giants_are : survey.giants ≡ length (plan_giants slots strategy ks)
+  pub giants_are : survey.giants ≡ length (plan_giants slots strategy ks)
   unfolding takes
-  giants_are = ap (λ (s : Survey). s.giants) a.survey_is
+  giants_are = ap (λ (s : Survey). s.giants) r.survey_is
 
   switches_are : survey.switches ≡ plan_switches slots strategy ks
   unfolding takes
-  switches_are = ap (λ (s : Survey). s.switches) a.survey_is
+  switches_are = ap (λ (s : Survey). s.switches) r.survey_is
 
   pub powers_are : survey.powers ≡ powers_of slots strategy ks
   unfolding takes
-  powers_are = ap (λ (s : Survey). s.powers) a.survey_is
-
-  pub powers_told : survey.powers ≡ powers_of slots strategy offsets
-  powers_told = powers_are ∙ rw a.offsets_are
+  powers_are = ap (λ (s : Survey). s.powers) r.survey_is
 
   own_are : survey.babies - 1 ≡ length (nonzeros (plan_babies slots strategy ks))
-  own_are = rw babies_are (cache_room slots range.low range.high strategy ks)
+  own_are = ap (λ (x : ℕ). x - 1) babies_are ∙ cache_room slots range.low range.high strategy ks
 
   pub own_switches : survey.babies - 1 ≡ length (baby_schedule slots strategy ks)
   own_switches = own_are ∙ sym (baby_count slots strategy ks)
@@ -110,8 +142,8 @@ module _ {strategy : LinearTransformationStrategy} {survey : Survey} {offsets pa
   unfolding plan_switches
   all_switches = omega (arith, switches_are, own_are, giant_count slots strategy ks)
 
-  pub turns_told : survey.switches - (survey.babies - 1) ≡ length (giant_schedule slots strategy offsets)
-  turns_told = rw a.offsets_are (omega (arith, all_switches))
+  pub turns_told : survey.switches - (survey.babies - 1) ≡ length (giant_schedule slots strategy ks)
+  turns_told = omega (arith, all_switches)
 
   pub some_baby : 1 ≤ survey.babies
   some_baby = omega (arith, babies_are, ap length (plan_babies_front slots range.high range.low strategy ks))
@@ -120,7 +152,7 @@ module _ {strategy : LinearTransformationStrategy} {survey : Survey} {offsets pa
   own_low = omega (arith, all_switches)
 
   pub sizes : Sized survey slots
-  sizes = sized slots a.taken a.survey_is
+  sizes = sized m strategy r.survey_is
 
   -- ---- the plan's words
 
@@ -129,89 +161,111 @@ module _ {strategy : LinearTransformationStrategy} {survey : Survey} {offsets pa
   words_many = words_length planned (plan_babies slots strategy ks)
 
   pub plan_parts : survey.babies + 3 * survey.giants ≤ length plan
-  plan_parts = omega (arith, babies_are, giants_are, a.plan_room, words_many)
+  plan_parts = omega (arith, babies_are, giants_are, d.plan_room, words_many)
 
-  pub babies_part : take survey.babies plan ≡ plan_babies slots strategy ks
-  babies_part = rw babies_are (babies_read slots strategy ks plan a.old_plan a.plan_is)
+  module _ {p : Parts} (q : Cut survey plan p) where
+    pub babies_cut : p.babies.now ≡ plan_babies slots strategy ks
+    babies_cut = q.babies_are ∙ ap (λ (x : ℕ). take x plan) babies_are ∙ babies_read slots strategy ks plan d.old_plan d.plan_is
 
-  pub giants_part : take (survey.babies + survey.giants - survey.babies) (drop survey.babies plan) ≡ plan_giants slots strategy ks
-  giants_part =
-      let e : survey.babies + survey.giants - survey.babies ≡ survey.giants = omega arith in
-      rw (e, babies_are, giants_are) (giants_read slots strategy ks plan a.old_plan a.plan_is)
+    pub giants_cut : p.giants.now ≡ plan_giants slots strategy ks
+    giants_cut =
+        let e : take survey.giants (drop survey.babies plan) ≡ take (length (plan_giants slots strategy ks)) (drop (length (plan_babies slots strategy ks)) plan) = cc (babies_are, giants_are) in
+        q.giants_are ∙ e ∙ giants_read slots strategy ks plan d.old_plan d.plan_is
 
-  cuts_part : take (survey.babies + survey.giants + 2 * survey.giants - (survey.babies + survey.giants)) (drop (survey.babies + survey.giants) plan) ≡ join (λ c. c.0 ∷ c.1 ∷ []) (plan_pairs slots (width_of strategy) ks)
-  cuts_part =
-      let e : survey.babies + survey.giants + 2 * survey.giants - (survey.babies + survey.giants) ≡ 2 * survey.giants = omega arith in
-      rw (e, babies_are, giants_are) (pairs_read slots strategy ks plan a.old_plan a.plan_is)
+    cuts_cut : p.cuts.now ≡ join (λ c. c.0 ∷ c.1 ∷ []) (plan_pairs slots (width_of strategy) ks)
+    cuts_cut =
+        let e : take (2 * survey.giants) (drop (survey.babies + survey.giants) plan) ≡ take (2 * length (plan_giants slots strategy ks)) (drop (length (plan_babies slots strategy ks) + length (plan_giants slots strategy ks)) plan) = cc (babies_are, giants_are) in
+        q.cuts_are ∙ e ∙ pairs_read slots strategy ks plan d.old_plan d.plan_is
 
   -- ---- the nodes
 
-  cached : (length (plan_babies slots strategy ks) - 1) * slots ≤ length cache
-  cached = rw (← babies_are) a.cache_room
+  pub plan_cached : (length (plan_babies slots strategy ks) - 1) * slots ≤ length cache
+  plan_cached = rw (← babies_are) d.cache_room
 
-  roomy : length (plan_giants slots strategy ks) * slots ≤ length nodes
-  roomy = rw (← giants_are) a.nodes_room
+  pub roomy : length (plan_giants slots strategy ks) * slots ≤ length nodes
+  roomy = rw (← giants_are) d.nodes_room
 
-  pub nodes_asked : NodesAsked (take survey.babies plan) (take (survey.babies + survey.giants - survey.babies) (drop survey.babies plan)) (take (survey.babies + survey.giants + 2 * survey.giants - (survey.babies + survey.giants)) (drop (survey.babies + survey.giants) plan)) pairs values input cache nodes
-  nodes_asked = nodes_of a.taken.formed range strategy a.taken.width input refl cached roomy babies_part giants_part cuts_part
+  module _ {p : Parts} (q : Cut survey plan p) where
+    pub nodes_asked : NodesAsked p.babies.now p.giants.now p.cuts.now m.count m.pairs.now input cache nodes
+    nodes_asked = nodes_of (map_formed m) range strategy r.width input r.whole plan_cached roomy (babies_cut q) (giants_cut q) (cuts_cut q)
 
-  module _ {made : List ℕ} (m : NodesMade (take survey.babies plan) (take (survey.babies + survey.giants - survey.babies) (drop survey.babies plan)) (take (survey.babies + survey.giants + 2 * survey.giants - (survey.babies + survey.giants)) (drop (survey.babies + survey.giants) plan)) pairs values input cache nodes made) (len : length made ≡ length nodes) where
-    nodes_are : made ≡ in_front (node_words modulus slots strategy (view survey.diagonals pairs values) input cache) nodes
-    nodes_are = nodes_made a.taken.formed range strategy a.taken.width input refl babies_part giants_part cuts_part cache m
+    pub nodes_are : {made : List ℕ} → NodesMade p.babies.now p.giants.now p.cuts.now m.pairs.now m.values.now input cache nodes made → made ≡ nodes_in r cache nodes
+    nodes_are k = nodes_made (map_formed m) range strategy r.width input r.whole (babies_cut q) (giants_cut q) (cuts_cut q) cache k
 
-    -- ---- the giant switches
+-- ---- the giant switches
 
-    module _ (n : ℕ) (from : survey.babies - 1 ≤ n) {limit : ℕ} (e : limit ≡ min n survey.switches) where
-      abbrev gs : List ℕ
-      gs = take (survey.babies + survey.giants - survey.babies) (drop survey.babies plan)
+module _ {r : Run} {w : Words} (a : RunAsked r w) where
+  abbrev all_slots : ℕ
+  all_slots = r.asked.map.slots
 
-      abbrev count : ℕ
-      count = limit - (survey.babies - 1)
+  abbrev all_offsets : List ℕ
+  all_offsets = offsets_in r.asked.map
 
-      count_fits : count ≤ length (giant_schedule slots strategy ks)
-      count_fits = omega (arith, all_switches)
+  abbrev turns : List Switch
+  turns = giant_schedule all_slots r.asked.strategy all_offsets
 
-      pub turning_asked : TurningAsked strategy count slots offsets gs made log (survey.babies - 1)
-      turning_asked =
-          rw a.offsets_are
-          (record {
-            range = range;
-            width = a.taken.width;
-            distinct = distinct;
-            giants_are = giants_part;
-            few = count_fits;
-            room = rw giants_part (omega (arith, roomy, len));
-            log_room = omega (arith, a.log_room, own_low);
-          })
+  abbrev own : ℕ
+  own = r.survey.babies - 1
 
-      scheduled : take count (giant_schedule slots strategy ks) ≡ take (n - (survey.babies - 1)) (giant_schedule slots strategy ks)
-      scheduled = take_least (giant_schedule slots strategy ks) (n - (survey.babies - 1)) count (omega (arith, all_switches))
+  pub turning_asked : {p : Parts} → Cut r.survey w.plan.now p → {made : ℕ} → own + made ≤ r.survey.switches → Turning r.asked.strategy made all_slots all_offsets p.giants.now w.nodes.now w.log.now own
+  turning_asked q l =
+      let d = a.written in
+      record {
+        range = range d;
+        width = r.width;
+        distinct = distinct d;
+        giants_are = giants_cut d q;
+        few = omega (arith, all_switches d);
+        room = rw (giants_cut d q) (roomy d);
+        log_room = omega (arith, a.log_room);
+      }
 
-      module _ {nodes' log' : List ℕ} (t : NodesTurned strategy count slots offsets made nodes' log log' (survey.babies - 1)) where
-        turned_are : nodes' ≡ turned_nodes strategy survey n pairs values input cache nodes
-        turned_are = t.turned ∙ rw (a.offsets_are, scheduled, nodes_are)
+  module _ {made : List ℕ} (k : made ≡ nodes_in r w.cache.now w.nodes.now) (len : length made ≡ length w.nodes.now) (n : ℕ) (from : own ≤ n) {limit : ℕ} (e : limit ≡ min n r.survey.switches) {w₁ : Words} (t : NodesTurned r (limit - own) (holding w w.plan.now w.cache.now made w.log.now w.out.now) w₁) where
+    scheduled : first_turns r (limit - own) ≡ first_turns r (n - own)
+    scheduled = take_least turns (n - own) (limit - own) (omega (arith, all_switches a.written))
 
-        log_is : log' ≡ put_at (survey.babies - 1) (map rotation_of (take (n - (survey.babies - 1)) (giant_schedule slots strategy ks))) log
-        log_is = t.logs ∙ rw (a.offsets_are, scheduled)
+    turned_are : w₁.nodes.now ≡ turned_nodes r n w.cache.now w.nodes.now
+    turned_are = t.turned ∙ rw (scheduled, k)
 
-        -- not finished
-        pub unfinished : n < survey.switches → GiantsLeft strategy survey n pairs values input cache nodes nodes' log log' out out
-        unfinished l = record { nodes_are = turned_are; log_is = log_is; out_is = sym (rw (lt-ltb n survey.switches l)) }
+    log_is : w₁.log.now ≡ put_at own (map rotation_of (first_turns r (n - own))) w.log.now
+    log_is = t.logs ∙ rw scheduled
 
-        -- ---- the answer
+    -- not finished
+    pub unfinished : n < r.survey.switches → GiantsLeft r n w w₁
+    unfinished l =
+        record {
+          plan_is = t.plan_is;
+          cache_is = t.cache_is;
+          nodes_are = turned_are;
+          log_is = log_is;
+          out_is = t.out_is ∙ sym (rw (lt-ltb n r.survey.switches l));
+        }
 
-        module _ (len' : length nodes' ≡ length made) where
-          front : length (take slots out) ≡ slots
-          front = length-take-le slots out a.out_room
+    -- ---- the answer
 
-          answer_by_lem : (powers : Option Powers) (giants : ℕ) → powers ≡ powers_of slots strategy ks → giants ≡ length (plan_giants slots strategy ks) → answer_by powers giants nodes' slots ≡ answer_of modulus slots strategy ks nodes'
-          answer_by_lem None g q r = rw r (sym (Own.answer_own modulus slots strategy ks nodes' (no_powers slots strategy ks (sym q))))
-          answer_by_lem (Some p) zero q r = sym (Pairs.answer_none slots strategy ks (some_powers slots strategy ks p (sym q)).0 modulus nodes' (sym r))
-          answer_by_lem (Some p) (suc g) q r = sym (Pairs.answer_some slots strategy ks (some_powers slots strategy ks p (sym q)).0 a.taken.width distinct modulus nodes' (omega (arith, r)))
+    abbrev answer : List ℕ
+    answer = answer_of modulus all_slots r.asked.strategy all_offsets w₁.nodes.now
 
-          pub finished : survey.switches ≤ n → {ys : List ℕ} → ys ≡ answer_by survey.powers survey.giants nodes' (length (take slots out)) → GiantsLeft strategy survey n pairs values input cache nodes nodes' log log' out (ys ++ drop slots out)
-          unfolding in_front
-          finished l {ys} q =
-              let is : ys ≡ answer_of modulus slots strategy ks nodes' = q ∙ rw front (answer_by_lem survey.powers survey.giants powers_are giants_are) in
-              let many : length (answer_of modulus slots strategy ks nodes') ≡ slots = length_answer modulus slots strategy ks planned nodes' (omega (arith, roomy, len, len')) in
-              record { nodes_are = turned_are; log_is = log_is; out_is = rw (le-ltb n survey.switches l, is, many) }
+    front : length (take all_slots w₁.out.now) ≡ all_slots
+    front = length-take-le all_slots w₁.out.now (rw t.out_is a.out_room)
+
+    answer_by_lem : (powers : Option Powers) (giants : ℕ) → powers ≡ powers_of all_slots r.asked.strategy all_offsets → giants ≡ length (plan_giants all_slots r.asked.strategy all_offsets) → answer_by powers giants w₁.nodes.now all_slots ≡ answer
+    answer_by_lem None g x y = rw y (sym (Own.answer_own modulus all_slots r.asked.strategy all_offsets w₁.nodes.now (no_powers all_slots r.asked.strategy all_offsets (sym x))))
+    answer_by_lem (Some p) zero x y = sym (Pairs.answer_none all_slots r.asked.strategy all_offsets (some_powers all_slots r.asked.strategy all_offsets p (sym x)).0 modulus w₁.nodes.now (sym y))
+    answer_by_lem (Some p) (suc g) x y = sym (Pairs.answer_some all_slots r.asked.strategy all_offsets (some_powers all_slots r.asked.strategy all_offsets p (sym x)).0 r.width (distinct a.written) modulus w₁.nodes.now (omega (arith, y)))
+
+    -- finished, with words of which the out alone is another
+    pub finished : r.survey.switches ≤ n → {ys : List ℕ} → ys ≡ answer_by r.survey.powers r.survey.giants w₁.nodes.now (length (take all_slots w₁.out.now)) → GiantsLeft r n w (holding w₁ w₁.plan.now w₁.cache.now w₁.nodes.now w₁.log.now (ys ++ drop all_slots w₁.out.now))
+    unfolding in_front
+    finished l {ys} x =
+        let d = a.written in
+        let is : ys ≡ answer = x ∙ rw front (answer_by_lem r.survey.powers r.survey.giants (powers_are d) (giants_are d)) in
+        let long : length w₁.nodes.now ≡ length w.nodes.now = t.len ∙ len in
+        let many : length answer ≡ all_slots = length_answer modulus all_slots r.asked.strategy all_offsets (planned d) w₁.nodes.now (omega (arith, roomy d, long)) in
+        record {
+          plan_is = t.plan_is;
+          cache_is = t.cache_is;
+          nodes_are = turned_are;
+          log_is = log_is;
+          out_is = rw (le-ltb n r.survey.switches l, is, many, t.out_is);
+        }

@@ -1,6 +1,6 @@
 // The answer of a finished run: per rotation the sum of all nodes, with powers of two the tree's top
 // node, which stands at the first place.
-ghost use Rattle.std.specs.Prelude.{◌≡◌, ◌*◌, ◌≤◌, length};
+ghost use Rattle.std.specs.Prelude.{◌≡◌, ◌*◌, length};
 ghost use Rattle.ring.specs.Slots.{modulus};
 ghost use Rattle.runs.specs.Machines.{node_sum};
 ghost use Rattle.runs.specs.Steps.Runs.{AnswerAsked, top_by, answer_by};
@@ -10,16 +10,13 @@ use crate::turning::add_vector;
 
 // The sum of the first n nodes.
 fn sum_nodes(n: usize, nodes: &[u64], out: &mut [u64])
-    requires { n * length out.old ≤ length nodes.now }
+    requires { AnswerAsked n nodes.now out.old }
     ensures { out.new ≡ node_sum modulus (length out.old) n nodes.now }
 {
     let slots = out.len();
     out.fill(0);
-    // Nodes have places in one buffer.
-    for p in 0..n {
-        let start = p * slots;
-        let end = start + slots;
-        add_vector(&nodes[start..end], out);
+    for node in nodes[..n * slots].chunks_exact(slots) {
+        add_vector(node, out);
     }
 }
 

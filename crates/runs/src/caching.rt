@@ -37,6 +37,7 @@ pub(crate) fn rotated_input<'a>(
 
 // The rotation that makes a baby: the baby itself, and with powers of two the top bit of its multiple
 // of the step.
+// Kept: no conversion: a shift to the top bit.
 fn turn_of(baby: u32, powers: Option<Powers>) -> u32
     requires { Turnable baby powers }
     ensures { TurnIs baby powers result }

@@ -3,14 +3,14 @@
 ghost use Rattle.std.specs.Prelude.{◌≡◌, ◌+◌, ◌<◌, ◌≤◌, length};
 ghost use Rattle.linear_transformation.specs.Digits.{level_rotation};
 ghost use Rattle.runs.specs.Switches.{node_place};
-ghost use Rattle.runs.specs.Steps.Giants.{TurnsAsked, GiantsTurned, leaf_or_none, leaves_of, NodeAsked, node_at, starts_pair, has_even, PlaceAsked, PairAsked, PairJoined, PairsAsked, PairsJoined};
+ghost use Rattle.runs.specs.Steps.Giants.{TurnsAsked, GiantsTurned, leaf_or_zero, leaves_of, NodeAsked, node_at, starts_pair, has_even, PlaceAsked, PairAsked, PairJoined, PairsAsked, PairsJoined};
 
 use crate::tree::Tree;
 use crate::turning::{add_turned, rotate_at};
 
 // Per rotation: the n giants from place `start` on.
-// Kept: nodes, log and the place in it go one by one, here and in `join_pairs` and `turn_nodes`: each loop
-// lends the nodes on alone, so a struct of the three is no plainer.
+// Kept: nodes, log and the place in it go one by one, here and in `join_pairs`: each loop lends the nodes
+// on alone, so a struct of the three is no plainer.
 pub(crate) fn turn_giants(
     giants: &[u32],
     start: usize,
@@ -31,8 +31,9 @@ pub(crate) fn turn_giants(
 
 impl Tree<'_> {
     // The leaf of a number; 0 where it is no giant.
+    // Kept: no conversion: a digit, reduced.
     fn leaf_of(&self, giant: u32) -> u32
-        ensures { result ≡ leaf_or_none self.now giant }
+        ensures { result ≡ leaf_or_zero self.now giant }
     {
         match linear_transformation::giant_digit(giant as i64, self.width, self.slots) {
             Ok(digit) => ring::residue(digit.0, 1 << self.bits),
@@ -41,6 +42,7 @@ impl Tree<'_> {
     }
 
     // Where the vector of a node stands: at the first giant whose leaf is under it.
+    // Kept: no conversion: a search.
     fn place_of(&self, level: usize, node: u32) -> usize
         requires { NodeAsked self.now level node }
         ensures { result ≡ node_place (leaves_of self.now) level node }
@@ -51,6 +53,8 @@ impl Tree<'_> {
     }
 
     // The node of a level above the giant at a place.
+    // Kept: here and in `starts_pair` and `has_even` level and place are asked to be in range. A struct of the
+    // two with these as ghost fields would be made anew for the place before, which both of these look at.
     fn node_at(&self, level: usize, place: usize) -> u32
         requires { PlaceAsked self.now level place }
         ensures { result ≡ node_at (leaves_of self.now) level place }
@@ -59,6 +63,7 @@ impl Tree<'_> {
     }
 
     // Whether a pair starts at a place of a level: with the first giant under an odd node.
+    // Kept: as `node_at`.
     fn starts_pair(&self, level: usize, place: usize) -> bool
         requires { PlaceAsked self.now level place }
         ensures { result ≡ starts_pair (leaves_of self.now) level place }
@@ -68,6 +73,7 @@ impl Tree<'_> {
     }
 
     // Whether the even node of that pair is there: the giant before is under it.
+    // Kept: as `node_at`.
     fn has_even(&self, level: usize, place: usize) -> bool
         requires { PlaceAsked self.now level place }
         ensures { result ≡ has_even (leaves_of self.now) level place }
@@ -76,6 +82,7 @@ impl Tree<'_> {
     }
 
     // The rotation of a level.
+    // Kept: no conversion: a call, whose answer the log holds in 32 bits.
     fn turn_of(&self, level: usize) -> u32
         requires { level < self.now.bits }
         ensures { result ≡ (level_rotation self.now.slots self.now.width self.now.bits level).0 }

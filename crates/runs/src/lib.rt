@@ -8,6 +8,7 @@ mod giants;
 pub mod keyed;
 mod nodes;
 mod products;
+mod run;
 mod surveying;
 mod tree;
 mod turning;
@@ -15,11 +16,12 @@ mod turning;
 ghost use Rattle.std.specs.Prelude.{◌≡◌, ◌≤◌, length};
 ghost use Rattle.ring.specs.Slots.{modulus};
 ghost use Rattle.ring.specs.Vectors.{tabulate};
-ghost use Rattle.diagonals.specs.Maps.{view, WellFormed};
 ghost use Rattle.diagonals.specs.Products.{product};
 ghost use Rattle.runs.specs.Calls.{Evaluated};
 ghost use Rattle.runs.specs.Steps.Plain.{diagonal_added, Repeated};
+ghost use Rattle.runs.specs.Steps.Surveys.{stored_in};
 
+use diagonals::Map;
 use ring::Refusal;
 
 // Adds a diagonal, given by one period: times the input from k on up to its end, and from its start on.
@@ -36,20 +38,19 @@ fn add_diagonal(period: &[u64], k: usize, input: &[u64], table: &mut [u64], out:
 
 // The map times the input. A larger table is no faster at 65,536 slots, and a small map pays for
 // clearing it.
-fn multiply(count: usize, pairs: &[u32], values: &[u64], input: &[u64], out: &mut [u64])
-    requires input_len { length input.now ≡ length out.old }
-    requires well_formed { WellFormed (length input.now) count pairs.now values.now }
-    ensures { out.new ≡ tabulate (length input.now) (product modulus (length input.now) (view count pairs.now values.now) input.now) }
+// Kept: there is no heap, so the table has a fixed length.
+fn multiply(map: &Map<'_, '_>, input: &[u64], out: &mut [u64])
+    requires input_len { length input.now ≡ map.now.slots }
+    requires out_len { length out.old ≡ map.now.slots }
+    ensures { out.new ≡ tabulate map.now.slots (product modulus map.now.slots (stored_in map.now) input.now) }
 {
     out.fill(0);
     let mut table = [0u64; 512];
-    let mut start: usize = 0;
-    // By their number, since only the store knows where the words of a pair stand.
-    for i in 0..count {
-        let end = start + diagonals::length_at(pairs, i) as usize;
-        let k = diagonals::offset_at(pairs, i) as usize;
-        add_diagonal(&values[start..end], k, input, &mut table, out);
-        start = end;
+    let mut rest = map.values;
+    for &[offset, len] in map.entries() {
+        let (period, behind) = rest.split_at(len as usize);
+        add_diagonal(period, offset as usize, input, &mut table, out);
+        rest = behind;
     }
 }
 
@@ -67,7 +68,7 @@ pub fn evaluate(
 ) -> Result<(), Refusal>
     ensures { Evaluated slots count pairs.now values.now input.now strategy out.old out.new result }
 {
-    diagonals::check_map(slots, count, pairs, values)?;
+    let map = Map::accept(slots, count, pairs, values)?;
     if linear_transformation::is_width_outside(strategy) {
         return Err(Refusal::OutOfRange);
     }
@@ -77,6 +78,6 @@ pub fn evaluate(
     if out.len() < slots {
         return Err(Refusal::Room);
     }
-    multiply(count, pairs, values, input, &mut out[..slots]);
+    multiply(&map, input, &mut out[..slots]);
     Ok(())
 }

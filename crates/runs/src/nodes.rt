@@ -1,19 +1,20 @@
 // The nodes: for each giant the sum over its diagonals of the input rotated by the baby, times the
 // diagonal turned back by the giant.
-ghost use Rattle.std.specs.Prelude.{◌≤◌, length};
-ghost use Rattle.runs.specs.Steps.Nodes.{GiantOf, PartAsked, PartOf, NodesOf, TileOf, TileMadeOf, NodesMadeOf};
+ghost use Rattle.std.specs.Prelude.{◌≡◌, ◌≤◌, length};
 
-// What the nodes are made of: the plan's babies, giants and cuts, the map, the input and the cache. The
-// cuts say where each giant's diagonals start and how many they are.
+use crate::caching::rotated_input;
+use crate::products::add_period;
+use crate::surveying::Parts;
+use diagonals::Map;
+
+// What the nodes are made of: the plan's parts, the map, the input and the cache.
 #[derive(Clone, Copy)]
 pub(crate) struct Sums<'a> {
-    pub(crate) babies: &'a [u32],
-    pub(crate) giants: &'a [u32],
-    pub(crate) cuts: &'a [u32],
-    pub(crate) pairs: &'a [u32],
-    pub(crate) values: &'a [u64],
+    pub(crate) parts: Parts<'a>,
+    pub(crate) map: Map<'a, 'a>,
     pub(crate) input: &'a [u64],
     pub(crate) cache: &'a [u64],
+    ghost whole: { length input.now ≡ map.slots },
 }
 
 // How many slots of all nodes are made before the next ones, so that the rotated inputs are read from
@@ -28,9 +29,12 @@ fn tile_of(values: usize) -> usize
 }
 
 impl Sums<'_> {
+    ghost use Rattle.runs.specs.Steps.Nodes.{GiantOf, PartAsked, PartOf, NodesOf, TileOf, TileMadeOf, NodesMadeOf};
+
     // A part of a giant's node, from slot `slot` on: at each slot s the sum over n diagonals from the
     // first on, whose values stand from `start` on, of the rotated input at s times the diagonal at
     // s - giant. Gives where the next values start.
+    // Kept: there is no heap, so the table has a fixed length.
     fn make_part(
         &self,
         giant: u32,
@@ -50,16 +54,12 @@ impl Sums<'_> {
         let stop = slot + size;
         let mut table = [0u64; 512];
         let mut at = start;
-        // By their number, since only the store knows where the words of a pair stand.
-        for i in 0..n {
-            let k = first + i;
-            let len = diagonals::length_at(self.pairs, k) as usize;
-            let end = at + len;
-            let baby = diagonals::offset_at(self.pairs, k) - giant;
-            let vector = crate::caching::rotated_input(self.babies, baby, self.input, self.cache);
-            crate::products::add_period(
-                &self.values[at..end],
-                back % len,
+        for &[offset, len] in &self.map.entries()[first..first + n] {
+            let end = at + len as usize;
+            let vector = rotated_input(self.parts.babies, offset - giant, self.input, self.cache);
+            add_period(
+                &self.map.values[at..end],
+                back % len as usize,
                 &vector[slot..stop],
                 &mut table,
                 part,
@@ -76,9 +76,9 @@ impl Sums<'_> {
     {
         let slots = self.input.len();
         let mut values_at = 0;
-        for (p, &giant) in self.giants.iter().enumerate() {
-            let first = self.cuts[2 * p] as usize;
-            let n = self.cuts[2 * p + 1] as usize;
+        for (p, &giant) in self.parts.giants.iter().enumerate() {
+            let first = self.parts.cuts[2 * p] as usize;
+            let n = self.parts.cuts[2 * p + 1] as usize;
             let start = p * slots + slot;
             let end = start + size;
             values_at = self.make_part(giant, first, n, values_at, slot, &mut nodes[start..end]);
@@ -91,7 +91,7 @@ impl Sums<'_> {
         ensures { NodesMadeOf self.now nodes.old nodes.new }
     {
         let slots = self.input.len();
-        let tile = tile_of(self.values.len());
+        let tile = tile_of(self.map.values.len());
         for slot in (0..slots).step_by(tile) {
             self.make_tile(slot, tile.min(slots - slot), nodes);
         }

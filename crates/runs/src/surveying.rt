@@ -1,10 +1,10 @@
 // The survey before a keyed run: what the run by a plan takes, and whether there is room for it.
-ghost use Rattle.std.specs.Prelude.{◌≡◌, ◌≤◌, min, length};
+ghost use Rattle.std.specs.Prelude.{◌≡◌, ◌+◌, ◌*◌, ◌≤◌, length};
 ghost use Rattle.ring.specs.Refusals.{first_refusal};
 ghost use Rattle.ring.specs.Answers.{judged};
-ghost use Rattle.runs.specs.Steps.Surveys.{powers_by, SurveyedOf, Sized};
-ghost use Rattle.runs.specs.Steps.Ready.{survey_room};
+ghost use Rattle.runs.specs.Steps.Surveys.{powers_by, Cut, SurveyedOf, Sized, survey_room};
 
+use diagonals::Map;
 use linear_transformation::LinearTransformationStrategy;
 use ring::Refusal;
 
@@ -27,13 +27,18 @@ pub(crate) struct Survey {
     pub(crate) powers: Option<Powers>,
 }
 
-// What a keyed run is asked, but for the number of its switches.
+// A written plan by its parts. The cuts say where each giant's diagonals start and how many they are.
+#[derive(Clone, Copy)]
+pub(crate) struct Parts<'a> {
+    pub(crate) babies: &'a [u32],
+    pub(crate) giants: &'a [u32],
+    pub(crate) cuts: &'a [u32],
+}
+
+// What a keyed run of an accepted map is asked, but for the number of its switches.
 #[derive(Clone, Copy)]
 pub(crate) struct Asked<'a> {
-    pub(crate) slots: usize,
-    pub(crate) count: usize,
-    pub(crate) pairs: &'a [u32],
-    pub(crate) values: &'a [u64],
+    pub(crate) map: Map<'a, 'a>,
     pub(crate) input: &'a [u64],
     pub(crate) strategy: LinearTransformationStrategy,
     pub(crate) held: &'a [u64],
@@ -49,41 +54,57 @@ pub(crate) struct Words<'a> {
     pub(crate) out: &'a mut [u64],
 }
 
+// Kept: no conversion: the strategy says whether there are powers.
 fn powers_of(strategy: LinearTransformationStrategy, step: u32, bits: u32) -> Option<Powers>
     ensures { result ≡ powers_by strategy step bits }
 {
     match strategy {
-        LinearTransformationStrategy::Bsgs { giant_step: _ } => None,
-        LinearTransformationStrategy::BsgsPowersOfTwo { giant_step: _ } => {
-            Some(Powers { step, bits })
+        LinearTransformationStrategy::BsgsPowersOfTwo { .. } => Some(Powers { step, bits }),
+        _ => None,
+    }
+}
+
+impl Survey {
+    // The parts of a plan that takes so much.
+    pub(crate) fn parts<'a>(&self, plan: &'a [u32]) -> Parts<'a>
+        requires { self.now.babies + 3 * self.now.giants ≤ length plan.now }
+        ensures { Cut self.now plan.now result }
+    {
+        let (babies, rest) = plan.split_at(self.babies);
+        let (giants, rest) = rest.split_at(self.giants);
+        let cuts = &rest[..2 * self.giants];
+        Parts {
+            babies,
+            giants,
+            cuts,
         }
-        LinearTransformationStrategy::Direct => None,
     }
 }
 
 impl Asked<'_> {
-    // What the run would take, with no word written but the offsets: refuses with 1 or 2 a map, with 3 a
-    // strategy's width, with 7 an input that is not slots long and with 11 a key that is not held.
+    // What the run would take, with no word written but the offsets: refuses with 3 a strategy's width,
+    // with 7 an input that is not slots long and with 11 a key that is not held.
     pub(crate) fn look_over(&self, offsets: &mut [u32]) -> Result<Survey, Refusal>
-        requires { min self.now.count 65536 ≤ length offsets.old }
+        requires { self.now.map.count ≤ length offsets.old }
         ensures { SurveyedOf self.now offsets.old offsets.new result }
     {
-        diagonals::check_map(self.slots, self.count, self.pairs, self.values)?;
         if linear_transformation::is_width_outside(self.strategy) {
             return Err(Refusal::OutOfRange);
         }
-        if self.input.len() != self.slots {
+        if self.input.len() != self.map.slots {
             return Err(Refusal::Length);
         }
-        diagonals::indexes(self.slots, self.count, self.pairs, self.values, offsets).unwrap();
+        for (i, &[offset, _]) in self.map.entries().iter().enumerate() {
+            offsets[i] = offset;
+        }
         let needs = linear_transformation::plan_needs(
-            &offsets[..self.count],
-            self.slots,
+            &offsets[..self.map.count],
+            self.map.slots,
             self.strategy,
             self.held,
         )?;
         Ok(Survey {
-            diagonals: self.count,
+            diagonals: self.map.count,
             babies: needs.babies,
             giants: needs.giants,
             pairs: needs.pairs,
@@ -102,7 +123,7 @@ impl Words<'_> {
         room: usize,
     ) -> Result<(), Refusal>
         requires { Sized survey slots }
-        ensures { result ≡ judged (first_refusal (survey_room survey slots room self.now.plan.now self.now.cache.now self.now.nodes.now self.now.log.now self.now.out.now)) }
+        ensures { result ≡ judged (first_refusal (survey_room survey slots room self.now)) }
     {
         if self.plan.len() < survey.babies + 3 * survey.giants + survey.diagonals
             || room < survey.pairs

@@ -2,7 +2,8 @@
 ghost use Rattle.std.specs.Prelude.{◌^◌, ◌≤◌};
 ghost use Rattle.ring.specs.Lists.{Rising};
 ghost use Rattle.ring.specs.Refusals.{Range};
-ghost use Rattle.runs.specs.Steps.Leaves.{leaves_by, EachGiant, each_giant_prop, rising_prop};
+ghost use Rattle.runs.specs.Steps.Leaves.{leaves_by, EachGiant, each_giant_prop};
+ghost use Rattle.linear_transformation.specs.Steps.Rising.{rising_prop};
 
 // The tree over a plan's giants. The leaf of a giant is its digit modulo the b-th power of two; leaves
 // rise with the giants.

@@ -9,6 +9,7 @@ use ring::Refusal;
 
 // A refusal (0: none), and the room that a file's map needs, in words of pairs and in values (0 where
 // refused).
+// Kept: C has no Result.
 #[repr(C)]
 #[derive(Clone, Copy)]
 pub struct FileRoomNumbers {
@@ -18,6 +19,7 @@ pub struct FileRoomNumbers {
 }
 
 // A refusal (0: none), and a map's slots and number of pairs (0 where refused).
+// Kept: C has no Result.
 #[repr(C)]
 #[derive(Clone, Copy)]
 pub struct FileMapNumbers {
@@ -29,6 +31,7 @@ pub struct FileMapNumbers {
 impl From<Result<FileRoom, Refusal>> for FileRoomNumbers {
     ghost from_gives = { λ r n. told_room n ≡ room_numbers r };
 
+    // Kept: one From for each struct of C, whose fields have names of their own.
     fn from(answer: Result<FileRoom, Refusal>) -> Self {
         match answer {
             Ok(room) => FileRoomNumbers {
@@ -48,6 +51,7 @@ impl From<Result<FileRoom, Refusal>> for FileRoomNumbers {
 impl From<Result<FileMap, Refusal>> for FileMapNumbers {
     ghost from_gives = { λ r n. told_map n ≡ map_numbers r };
 
+    // Kept: one From for each struct of C, whose fields have names of their own.
     fn from(answer: Result<FileMap, Refusal>) -> Self {
         match answer {
             Ok(map) => FileMapNumbers {

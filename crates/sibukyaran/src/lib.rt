@@ -26,6 +26,7 @@ use runs::keyed::Progress;
 // From of its own, here and in files.rt.
 
 // A refusal (0: none) and a value (0 where refused).
+// Kept: C has no Result.
 #[repr(C)]
 #[derive(Clone, Copy)]
 pub struct Numbers {
@@ -34,6 +35,7 @@ pub struct Numbers {
 }
 
 // A refusal (0: none) and a truth (false where refused).
+// Kept: C has no Result.
 #[repr(C)]
 #[derive(Clone, Copy)]
 pub struct Truth {
@@ -42,6 +44,7 @@ pub struct Truth {
 }
 
 // A refusal (0: none) and a digit (0 where refused).
+// Kept: C has no Result.
 #[repr(C)]
 #[derive(Clone, Copy)]
 pub struct SignedDigit {
@@ -50,6 +53,7 @@ pub struct SignedDigit {
 }
 
 // A refusal (0: none), and the numbers of babies, giants and diagonals (0 where refused).
+// Kept: C has no Result.
 #[repr(C)]
 #[derive(Clone, Copy)]
 pub struct PlanNumbers {
@@ -60,6 +64,7 @@ pub struct PlanNumbers {
 }
 
 // A refusal (0: none), and the numbers of passes and moves (0 where refused).
+// Kept: C has no Result.
 #[repr(C)]
 #[derive(Clone, Copy)]
 pub struct PassNumbers {
@@ -69,6 +74,7 @@ pub struct PassNumbers {
 }
 
 // A refusal (0: none), and the bits and pairs of a tree (0 where refused, and where there is none).
+// Kept: C has no Result.
 #[repr(C)]
 #[derive(Clone, Copy)]
 pub struct TreeNumbers {
@@ -79,6 +85,7 @@ pub struct TreeNumbers {
 
 // A refusal (0: none), the switches made and whether they are all, and the numbers of babies, giants,
 // diagonals and pairs (0 and false where refused).
+// Kept: C has no Result.
 #[repr(C)]
 #[derive(Clone, Copy)]
 pub struct KeyedNumbers {
@@ -160,6 +167,7 @@ impl From<Result<PlanSizes, Refusal>> for PlanNumbers {
 impl From<Result<PassSizes, Refusal>> for PassNumbers {
     ghost from_gives = { λ r n. told_passes n ≡ pass_numbers r };
 
+    // Kept: one From for each struct of C, whose fields have names of their own.
     fn from(answer: Result<PassSizes, Refusal>) -> Self {
         match answer {
             Ok(made) => PassNumbers {
@@ -228,6 +236,7 @@ impl From<Result<Progress, Refusal>> for KeyedNumbers {
 }
 
 // The refusal's number, 0 where there is none.
+// Kept: C takes the number alone, and u32 is no type of ours, so there is no From for it.
 fn code_of(answer: Result<(), Refusal>) -> u32
     ensures { result ≡ code_of answer }
 {

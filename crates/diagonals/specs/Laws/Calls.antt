@@ -12,9 +12,8 @@ use Rattle.ring.specs.Answers.{judged}
 use Rattle.ring.specs.Laws.Vectors.{filled_front}
 use Rattle.ring.specs.Laws.Refusals.{on_accept_accepted, first_refused, first_later, pick_none, either, none_holds}
 use Rattle.ring.specs.Laws.Answers.{answered_accepted, no_refused, when_ok, when_refused}
-use Rattle.diagonals.specs.Maps.{Diagonal, offset_at, well_formed, pair_words, value_words, pair_room, WellFormed}
-use Rattle.diagonals.specs.Calls.{map_refusals, map_refusal, Judged, MapWritten, indexes_refusal, Indexes, map_room, RoomJudged, SecondWritten}
-use Rattle.diagonals.specs.Steps.Accepting.{SameParts}
+use Rattle.diagonals.specs.Maps.{Diagonal, offset_at, start_at, well_formed, pair_words, value_words, pair_room, WellFormed}
+use Rattle.diagonals.specs.Calls.{map_refusals, map_refusal, Judged, MapWritten, indexes_refusal, Indexes, map_room, RoomJudged, SecondWritten, SameParts}
 use Rattle.diagonals.specs.Laws.Maps.{formed_means, offsets_view}
 use Rattle.diagonals.specs.Laws.Words.{means_formed}
 
@@ -47,6 +46,9 @@ module _ {slots count slots₁ count₁ : ℕ} {pairs values pairs₁ values₁ 
 
   pub same_formed : well_formed slots₁ count₁ pairs₁ values₁ ≡ true → well_formed slots count pairs values ≡ true
   same_formed h = rw (e.slots_is, e.count_is, e.pairs_is, e.values_is) at h
+
+  pub same_total : {total : ℕ} → total ≡ start_at pairs₁ count₁ → total ≡ start_at pairs count
+  same_total h = rw (e.count_is, e.pairs_is) at h
 
   pub same_accepted : outside slots₁ ≡ false → well_formed slots₁ count₁ pairs₁ values₁ ≡ true → map_refusal slots count pairs values ≡ None
   same_accepted a b = rw (same_outside a, same_formed b)

@@ -86,7 +86,7 @@ module _ {slots count : ℕ} {pairs : List ℕ} {total next i : ℕ} (c : Checki
 
 -- all pairs are looked at, and the values decide
 module _ {slots count : ℕ} {pairs : List ℕ} {total next i : ℕ} (c : Checking slots count pairs total next i) (h : count ≤ i) (values : List ℕ) where
-  total_is : total ≡ start_at pairs count
+  pub total_is : total ≡ start_at pairs count
   total_is = let e : i ≡ count = omega (arith, c.room) in c.total_is ∙ ap (start_at pairs) e
 
   stored_at : (j : ℕ) → j < count → Stored slots pairs j

@@ -1,9 +1,9 @@
 -- What the steps of testing and reading a map ask and ensure.
 -- Assumes nothing.
-use Rattle.std.specs.Prelude.{◌≡◌, ℕ, ◌<◌, ◌≤◌, Bool, false, List, [], ◌∷◌}
+use Rattle.std.specs.Prelude.{◌≡◌, ℕ, ◌<◌, ◌≤◌, Bool, false, List}
 use Rattle.std.specs.Int.{◌∣◌}
 use Rattle.ring.specs.Refusals.{no_period}
-use Rattle.diagonals.specs.Maps.{offset_at, length_at}
+use Rattle.diagonals.specs.Maps.{offset_at}
 
 pub record Divisor (slots p : ℕ) : Type 0 where
   pub some : 1 ≤ p
@@ -19,7 +19,3 @@ pub record Placed (count : ℕ) (pairs : List ℕ) (k index : ℕ) : Type 0 wher
   pub inside : index ≤ count
   pub before : (j : ℕ) → j < index → offset_at pairs j < k
   pub here : index < count → k ≤ offset_at pairs index
-
--- the words of the i-th pair
-abbrev pub pair_at : List ℕ → ℕ → List ℕ
-pair_at pairs i = offset_at pairs i ∷ length_at pairs i ∷ []

@@ -8,9 +8,10 @@ use Rattle.ring.specs.Marks.{marks}
 use Rattle.ring.specs.Laws.Searches.{by_false}
 use Rattle.ring.specs.Laws.Below.{below_ext}
 use Rattle.linear_transformation.specs.Closures.{closure}
-use Rattle.linear_transformation.specs.Steps.Babies.{Bounded, Closes}
+use Rattle.linear_transformation.specs.Steps.Babies.{Closes}
 use Rattle.ring.specs.Laws.Members.{each_among, among_each, rising_below}
 use Rattle.linear_transformation.specs.Laws.Closures.{closure_listed, closure_closed, closure_least, closure_low, closure_rising}
+use Rattle.linear_transformation.specs.Steps.Tables.{Bounded}
 
 -- two tests that say yes of the same
 pub agree : {a b : Bool} → (a ≡ true → b ≡ true) → (b ≡ true → a ≡ true) → a ≡ b

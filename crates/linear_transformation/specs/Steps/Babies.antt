@@ -1,6 +1,6 @@
 -- What the private steps of the calls about lists of babies ask and ensure.
 -- Assumes nothing.
-use Rattle.std.specs.Prelude.{ℕ, ◌+◌, ◌-◌, ◌*◌, ◌^◌, ◌≤◌, ◌<◌, ◌≡◌, Bool, true, false, cond, ◌&&◌, ◌⊎◌, List, [], ◌∷◌, map, eqb, leb, ltb, ℤ, pos, length, Option, Result, Ok}
+use Rattle.std.specs.Prelude.{ℕ, ◌+◌, ◌-◌, ◌*◌, ◌^◌, ◌≤◌, ◌<◌, ◌≡◌, Bool, true, false, cond, ◌&&◌, ◌⊎◌, List, [], ◌∷◌, map, eqb, leb, ltb, ℤ, pos, length, Option, None, Result}
 use Rattle.std.specs.Int.Signed.{lt_z}
 use Rattle.ring.specs.Lists.{join, Each, among}
 use Rattle.ring.specs.Vectors.{in_front}
@@ -9,12 +9,13 @@ use Rattle.ring.specs.Marks.{marks}
 use Rattle.ring.specs.declared.refusal.Refusal.{Refusal}
 use Rattle.ring.specs.declared.refusal.Refusal.TheVariants.{Room}
 use Rattle.ring.specs.Refusals.{first_refusal, on_accept, Range}
-use Rattle.ring.specs.Answers.{answered, judged}
+use Rattle.ring.specs.Answers.{answered}
 use Rattle.linear_transformation.specs.declared.rotations.BsgsRotations.{BsgsRotations}
 use Rattle.linear_transformation.specs.declared.rotations.PassSizes.{PassSizes}
-use Rattle.linear_transformation.specs.Closures.{cleared, closure, targets, Pass, passes, non_empty}
+use Rattle.linear_transformation.specs.Closures.{cleared, closure, Pass, passes}
 use Rattle.linear_transformation.specs.Listed.{baby_refusals, baby_step_of, no_baby, multiples_of, closure_of, pass_record, pass_words, move_words}
 use Rattle.linear_transformation.specs.Calls.{pass_sizes}
+use Rattle.linear_transformation.specs.Steps.Tables.{Bounded}
 
 -- ---- refusals
 
@@ -23,9 +24,11 @@ pub record Babies (step : ℕ) (bs : List ℤ) : Type 0 where
   pub range : Range step
   pub each : Each (λ z. no_baby z step ≡ false) bs
 
-pub record BabiesJudged (rotations : BsgsRotations) (bs : List ℤ) (r : Result Unit Refusal) : Type 0 where
-  pub answer : r ≡ judged (first_refusal (baby_refusals rotations bs))
-  pub accepted : r ≡ Ok tt → Babies (baby_step_of rotations) bs
+-- an accepted list of babies: no refusal applies, and its parts are those that the call was given
+pub record BabiesAccepted (rotations : BsgsRotations) (bs : List ℤ) (step₁ : ℕ) (bs₁ : List ℤ) : Type 0 where
+  pub none : first_refusal (baby_refusals rotations bs) ≡ None
+  pub step_is : step₁ ≡ baby_step_of rotations
+  pub babies_are : bs₁ ≡ bs
 
 -- neither negative nor above 65,535
 pub record Small (z : ℤ) : Type 0 where
@@ -33,12 +36,6 @@ pub record Small (z : ℤ) : Type 0 where
   pub high : lt_z (pos 65535) z ≡ false
 
 -- ---- tables
-
--- a table whose marks are below n
-pub record Bounded (seen : List Bool) (n : ℕ) : Type 0 where
-  pub size : length seen ≡ 65536
-  pub room : n ≤ 65536
-  pub above : (k : ℕ) → n ≤ k → marks seen k ≡ false
 
 -- for each marked k between p and 2p, k - p is marked too, and nothing else is new
 pub record Folded (p n : ℕ) (old new : List Bool) : Type 0 where
@@ -73,10 +70,6 @@ pub record Reached (rotations : BsgsRotations) (bs : List ℤ) (seen : List Bool
   pub bounded : Bounded seen n
   pub is : map (λ k. k * baby_step_of rotations) (below (marks seen) n) ≡ closure_of rotations bs
 
--- the i below b such that 2^i is the top bit of one of the numbers
-abbrev pub tops_of : List ℕ → ℕ → List ℕ
-tops_of cs b = below (λ i. non_empty (targets cs i)) b
-
 -- ---- passes
 
 -- k is at least p and below 2p: where p is a power of two, it is the top bit of k
@@ -93,7 +86,6 @@ pass_if_any rotation n = cond (eqb n 0) [] (pass_record rotation n)
 
 -- there is room for the moves of the pass p
 pub record Moving (step : ℕ) (bs : List ℤ) (p from : ℕ) (moves : List ℕ) : Type 0 where
-  pub babies : Babies step bs
   pub low : p ≤ 32768
   pub room : from + length (join (moves_at step p) (multiples_of step bs)) ≤ length moves
 
@@ -103,7 +95,6 @@ pub record PassRoom (rotation n at : ℕ) (old : List ℕ) : Type 0 where
 
 -- there is room for all passes and their moves
 pub record PassesRoom (step : ℕ) (bs : List ℤ) (old moves : List ℕ) : Type 0 where
-  pub babies : Babies step bs
   pub passes_room : length (pass_words (passes 16 step (multiples_of step bs))) ≤ length old
   pub moves_room : length (move_words (passes 16 step (multiples_of step bs))) ≤ length moves
 

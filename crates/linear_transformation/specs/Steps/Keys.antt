@@ -1,33 +1,18 @@
 -- What the private steps of the calls about a plan's babies, keys and switches ask and ensure.
 -- Assumes nothing.
-use Rattle.std.specs.Prelude.{ℕ, ◌*◌, ◌≤◌, ◌≡◌, Bool, true, false, List, map, ℤ, pos, length, Result, Ok}
+use Rattle.std.specs.Prelude.{ℕ, ◌*◌, ◌≤◌, ◌≡◌, Bool, false, List, map, ℤ, pos, length}
 use Rattle.ring.specs.Searches.{below}
 use Rattle.ring.specs.Marks.{marks}
-use Rattle.ring.specs.declared.refusal.Refusal.{Refusal}
-use Rattle.ring.specs.Refusals.{first_refusal, Range}
-use Rattle.ring.specs.Answers.{judged}
+use Rattle.ring.specs.Refusals.{Range}
 use Rattle.linear_transformation.specs.declared.LinearTransformationStrategy.{LinearTransformationStrategy}
-use Rattle.linear_transformation.specs.declared.LinearTransformationStrategy.TheVariants.{Bsgs, BsgsPowersOfTwo, Direct}
+use Rattle.linear_transformation.specs.declared.LinearTransformationStrategy.TheVariants.{BsgsPowersOfTwo}
 use Rattle.linear_transformation.specs.Strategies.{width_outside}
 use Rattle.linear_transformation.specs.Plans.{width_of, giants, Planned}
 use Rattle.linear_transformation.specs.Closures.{closure, nonzeros}
 use Rattle.linear_transformation.specs.Schedules.{baby_step, baby_multiples, plan_babies, giant_switches}
-use Rattle.linear_transformation.specs.Calls.{plan_refusals}
-use Rattle.linear_transformation.specs.Steps.Babies.{Bounded}
+use Rattle.linear_transformation.specs.Steps.Tables.{Bounded}
 
--- ---- strategies
-
--- each rotation has its own key
-unfoldable pub turns_each : LinearTransformationStrategy → Bool
-turns_each (Bsgs width) = true
-turns_each (BsgsPowersOfTwo width) = false
-turns_each Direct = true
-
--- ---- refusals
-
-pub record PlanJudged (slots : ℕ) (strategy : LinearTransformationStrategy) (r : Result Unit Refusal) : Type 0 where
-  pub answer : r ≡ judged (first_refusal (plan_refusals slots strategy))
-  pub accepted : r ≡ Ok tt → Range slots × (width_outside strategy ≡ false)
+-- ---- diagonals
 
 -- sorted diagonals and an accepted width; sorted diagonals and an accepted strategy
 pub record Sizable (slots width : ℕ) (ds : List ℕ) : Type 0 where

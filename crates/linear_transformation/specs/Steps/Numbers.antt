@@ -22,3 +22,10 @@ StepsInside (PowersOfTwo baby_step giant_step slots) = Range baby_step × (Range
 pub record StepsJudged (rotations : BsgsRotations) (r : Result Unit Refusal) : Type 0 where
   pub answer : r ≡ judged (first_refusal (step_refusals rotations))
   pub inside : r ≡ Ok tt → StepsInside rotations
+
+-- slots and the giant step are in range
+pub record Stepped (slots step : ℕ) : Type 0 where
+  pub positive : 1 ≤ step
+  pub some : 1 ≤ slots
+  pub small : slots ≤ 65536
+  pub low : step ≤ 65536

@@ -1,47 +1,34 @@
 -- What the private steps of the tree's calls ask and ensure.
 -- Assumes nothing. The nodes stand in a heap: node n of level i at 2^(b-i) + n, the parent of h at h / 2.
-use Rattle.std.specs.Prelude.{ℕ, suc, ◌+◌, ◌*◌, ◌-◌, ◌%◌, ◌^◌, ◌≤◌, ◌<◌, ◌≡◌, Bool, true, false, not, ◌||◌, List, map, ℤ, length, Result, Ok}
+use Rattle.std.specs.Prelude.{ℕ, suc, ◌+◌, ◌*◌, ◌-◌, ◌%◌, ◌^◌, ◌≤◌, ◌<◌, ◌≡◌, Bool, false, ◌||◌, List, map, ℤ, length, None}
 use Rattle.std.specs.Int.Signed.{mag}
-use Rattle.ring.specs.Lists.{join, Each, some, among}
+use Rattle.ring.specs.Lists.{join, among}
 use Rattle.ring.specs.Marks.{marks}
 use Rattle.ring.specs.Searches.{below}
 use Rattle.ring.specs.Vectors.{tabulate}
 use Rattle.ring.specs.Residues.{residue_of}
-use Rattle.ring.specs.declared.refusal.Refusal.{Refusal}
 use Rattle.ring.specs.Refusals.{first_refusal}
-use Rattle.ring.specs.Answers.{judged}
-use Rattle.ring.specs.Divisors.{divides}
 use Rattle.linear_transformation.specs.declared.digits.Digit.{Digit}
 use Rattle.linear_transformation.specs.declared.rotations.BsgsRotations.TheVariants.{PowersOfTwo}
+use Rattle.linear_transformation.specs.declared.tree.Tree.{Tree}
 use Rattle.linear_transformation.specs.Digits.{rot_of, digit, largest, bits_of, leaf, level_digit, level_rotation}
 use Rattle.linear_transformation.specs.declared.records.PairRecord.{PairRecord}
 use Rattle.linear_transformation.specs.Trees.{digits_of, leaves_of, there, Level, keyed}
 use Rattle.linear_transformation.specs.Listed.{giant_refusals}
+use Rattle.linear_transformation.specs.Steps.Numbers.{Stepped}
 
 -- ---- refusals
-
--- slots and the giant step are in range
-pub record Stepped (slots step : ℕ) : Type 0 where
-  pub positive : 1 ≤ step
-  pub some : 1 ≤ slots
-  pub small : slots ≤ 65536
-  pub low : step ≤ 65536
 
 -- a listed giant: a multiple of the step, modulo slots
 abbrev pub Listed : ℕ → ℕ → ℤ → Type 0
 Listed slots step z = residue_of z slots % step ≡ 0
 
-pub record Listing (slots step : ℕ) (gs : List ℤ) : Type 0 where
-  pub stepped : Stepped slots step
-  pub each : Each (Listed slots step) gs
-
-pub record AreMultiples (slots step : ℕ) (gs : List ℤ) (r : Bool) : Type 0 where
-  pub answer : not r ≡ some (λ z. not (divides step (residue_of z slots))) gs
-  pub each : r ≡ true → Each (Listed slots step) gs
-
-pub record GiantsJudged (baby_step giant_step slots : ℕ) (gs : List ℤ) (r : Result Unit Refusal) : Type 0 where
-  pub answer : r ≡ judged (first_refusal (giant_refusals (PowersOfTwo baby_step giant_step slots) gs))
-  pub accepted : r ≡ Ok tt → Listing slots giant_step gs
+-- an accepted list of giants: no refusal applies, and its parts are those that the call was given
+pub record GiantsAccepted (baby_step giant_step slots : ℕ) (gs : List ℤ) (step₁ slots₁ : ℕ) (gs₁ : List ℤ) : Type 0 where
+  pub none : first_refusal (giant_refusals (PowersOfTwo baby_step giant_step slots) gs) ≡ None
+  pub step_is : step₁ ≡ giant_step
+  pub slots_is : slots₁ ≡ slots
+  pub giants_are : gs₁ ≡ gs
 
 -- ---- digits and leaves
 
@@ -74,10 +61,6 @@ pub record LeafAsked (slots step bits : ℕ) (z : ℤ) : Type 0 where
 pub record LeafIs (slots step bits : ℕ) (z : ℤ) (r : ℕ) : Type 0 where
   pub is : r ≡ leaf bits (digit_at slots step z)
   pub low : r < 2 ^ bits
-
-pub record LeavesAsked (slots step bits : ℕ) (gs : List ℤ) : Type 0 where
-  pub listing : Listing slots step gs
-  pub small : bits ≤ 16
 
 -- the leaves of b bits of listed giants
 abbrev pub leaves_at : ℕ → ℕ → ℕ → List ℤ → List ℕ
@@ -114,12 +97,13 @@ pub record Planted (slots step : ℕ) (gs : List ℤ) (heap : List Bool) (r : �
   pub small : r ≤ 16
   pub heaped : Heaped r (leaves_of (digits_of slots step (map (rot_of slots) gs))) heap
 
--- ---- levels, from the heap alone
+-- the tree over giants
+pub record TreeOf (slots step : ℕ) (gs : List ℤ) (t : Tree) : Type 0 where
+  pub step_is : t.step ≡ step
+  pub slots_is : t.slots ≡ slots
+  pub planted : Planted slots step gs t.heap.now t.bits
 
--- level i of b
-pub record LevelOf (b i : ℕ) : Type 0 where
-  pub low : b ≤ 16
-  pub inside : i < b
+-- ---- levels, from the heap alone
 
 -- whether the k-th odd node of the level with 2·m places is there, k from 0 on; and its pair
 abbrev pub odd_at : List Bool → ℕ → ℕ → Bool
@@ -147,6 +131,13 @@ heap_levels slots step b heap n = tabulate n (heap_level slots step b heap)
 unfoldable pub heap_switches : ℕ → List Bool → ℕ → ℕ
 heap_switches b heap n = length (join (level_pairs heap b) (tabulate n (λ i. i)))
 
+-- the same of all levels of a tree
+abbrev pub levels_in : Tree → List Level
+levels_in t = heap_levels t.slots t.step t.bits t.heap.now t.bits
+
+abbrev pub switches_in : Tree → ℕ
+switches_in t = heap_switches t.bits t.heap.now t.bits
+
 abbrev pub keys_of : List Level → List ℕ
 keys_of ls = join (λ l. keyed l.rotation l.pairs) ls
 
@@ -159,12 +150,8 @@ pub record LevelDigit (b i : ℕ) (d : Digit) : Type 0 where
   pub is : d ≡ level_digit b i
   pub small : mag d.0 ≤ 65536
 
--- what a level's rotation asks; what those of all levels ask
+-- what a level's rotation asks
 pub record LevelAsked (slots step b i : ℕ) : Type 0 where
   pub stepped : Stepped slots step
   pub small : b ≤ 16
   pub low : i < b
-
-pub record LevelsAsked (slots step b : ℕ) : Type 0 where
-  pub stepped : Stepped slots step
-  pub small : b ≤ 16

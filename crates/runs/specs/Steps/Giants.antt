@@ -35,8 +35,8 @@ pub record GiantsTurned (gs : List ℕ) (start n slots : ℕ) (nodes nodes' log 
 -- ---- leaves
 
 -- of any number: 0 where it is no giant
-abbrev pub leaf_or_none : Tree → ℕ → ℕ
-leaf_or_none t g =
+abbrev pub leaf_or_zero : Tree → ℕ → ℕ
+leaf_or_zero t g =
     on_accept (digit_refusal t.slots t.width (pos g)) (residue_of (digit t.slots t.width (rot_of t.slots (pos g))).0 (2 ^ t.bits)) 0
 
 abbrev pub leaves_of : Tree → List ℕ

@@ -4,7 +4,7 @@ use Rattle.std.specs.Prelude.{◌≡◌, ℕ, ◌+◌, ◌-◌, ◌*◌, ◌<◌
 use Rattle.ring.specs.Slots.{modulus}
 use Rattle.ring.specs.Lists.{join, among}
 use Rattle.ring.specs.Vectors.{tabulate, in_front}
-use Rattle.diagonals.specs.Maps.{offset_at, start_at, WellFormed}
+use Rattle.diagonals.specs.Maps.{offset_at, start_at}
 use Rattle.runs.specs.declared.nodes.Sums.{Sums}
 use Rattle.runs.specs.Steps.Keyed.{Babies, node_run}
 
@@ -15,10 +15,7 @@ pub record GiantRun (bs : List ℕ) (g first n count : ℕ) (pairs input : List 
   pub above : (i : ℕ) → i < n → g ≤ offset_at pairs (first + i)
   pub has : (i : ℕ) → i < n → among (offset_at pairs (first + i) - g) bs ≡ true
 
-pub record GiantAsked (bs : List ℕ) (g first n start : ℕ) (pairs values input cache : List ℕ) : Type 0 where
-  pub count : ℕ
-  pub few : count ≤ 65536
-  pub formed : WellFormed (length input) count pairs values
+pub record GiantAsked (bs : List ℕ) (g first n start count : ℕ) (pairs input cache : List ℕ) : Type 0 where
   pub babies : Babies bs input cache
   pub run : GiantRun bs g first n count pairs input
   pub start_is : start ≡ start_at pairs first
@@ -32,10 +29,7 @@ pub record PartMade (bs : List ℕ) (g first n : ℕ) (pairs values input cache 
   pub end : r ≡ start_at pairs (first + n)
 
 -- all giants: their diagonals stand one after the other
-pub record NodesAsked (bs gs cuts pairs values input cache nodes : List ℕ) : Type 0 where
-  pub count : ℕ
-  pub few : count ≤ 65536
-  pub formed : WellFormed (length input) count pairs values
+pub record NodesAsked (bs gs cuts : List ℕ) (count : ℕ) (pairs input cache nodes : List ℕ) : Type 0 where
   pub babies : Babies bs input cache
   pub sizes : length cuts ≡ 2 * length gs
   pub runs : (p : ℕ) → p < length gs → GiantRun bs (slice_index gs p) (slice_index cuts (2 * p)) (slice_index cuts (2 * p + 1)) count pairs input
@@ -54,8 +48,8 @@ pub record MadeTo (f : ℕ → ℕ → ℕ) (n slots : ℕ) (upto : ℕ → ℕ)
   pub todo : (p s : ℕ) → p < n → s < slots → upto p ≤ s → slice_index new (p * slots + s) ≡ slice_index old (p * slots + s)
   pub behind : (i : ℕ) → n * slots ≤ i → slice_index new i ≡ slice_index old i
 
-pub record TileAsked (bs gs cuts pairs values input cache : List ℕ) (slot size : ℕ) (nodes : List ℕ) : Type 0 where
-  pub asked : NodesAsked bs gs cuts pairs values input cache nodes
+pub record TileAsked (bs gs cuts : List ℕ) (count : ℕ) (pairs input cache : List ℕ) (slot size : ℕ) (nodes : List ℕ) : Type 0 where
+  pub asked : NodesAsked bs gs cuts count pairs input cache nodes
   pub inside : slot + size ≤ length input
 
 -- nodes that were made up to a slot are made `size` slots further
@@ -74,19 +68,19 @@ pub record NodesMade (bs gs cuts pairs values input cache old new : List ℕ) : 
 -- ---- the same of what the nodes are made of
 
 abbrev pub GiantOf : Sums → ℕ → ℕ → ℕ → ℕ → Type 0
-GiantOf m g first n start = GiantAsked m.babies.now g first n start m.pairs.now m.values.now m.input.now m.cache.now
+GiantOf m g first n start = GiantAsked m.parts.babies.now g first n start m.map.count m.map.pairs.now m.input.now m.cache.now
 
 abbrev pub PartOf : Sums → ℕ → ℕ → ℕ → ℕ → ℕ → List ℕ → ℕ → Type 0
-PartOf m g first n slot size part r = PartMade m.babies.now g first n m.pairs.now m.values.now m.input.now m.cache.now slot size part r
+PartOf m g first n slot size part r = PartMade m.parts.babies.now g first n m.map.pairs.now m.map.values.now m.input.now m.cache.now slot size part r
 
 abbrev pub NodesOf : Sums → List ℕ → Type 0
-NodesOf m nodes = NodesAsked m.babies.now m.giants.now m.cuts.now m.pairs.now m.values.now m.input.now m.cache.now nodes
+NodesOf m nodes = NodesAsked m.parts.babies.now m.parts.giants.now m.parts.cuts.now m.map.count m.map.pairs.now m.input.now m.cache.now nodes
 
 abbrev pub TileOf : Sums → ℕ → ℕ → List ℕ → Type 0
-TileOf m slot size nodes = TileAsked m.babies.now m.giants.now m.cuts.now m.pairs.now m.values.now m.input.now m.cache.now slot size nodes
+TileOf m slot size nodes = TileAsked m.parts.babies.now m.parts.giants.now m.parts.cuts.now m.map.count m.map.pairs.now m.input.now m.cache.now slot size nodes
 
 abbrev pub TileMadeOf : Sums → ℕ → ℕ → List ℕ → List ℕ → Type 0
-TileMadeOf m slot size old new = TileMade m.babies.now m.giants.now m.cuts.now m.pairs.now m.values.now m.input.now m.cache.now slot size old new
+TileMadeOf m slot size old new = TileMade m.parts.babies.now m.parts.giants.now m.parts.cuts.now m.map.pairs.now m.map.values.now m.input.now m.cache.now slot size old new
 
 abbrev pub NodesMadeOf : Sums → List ℕ → List ℕ → Type 0
-NodesMadeOf m old new = NodesMade m.babies.now m.giants.now m.cuts.now m.pairs.now m.values.now m.input.now m.cache.now old new
+NodesMadeOf m old new = NodesMade m.parts.babies.now m.parts.giants.now m.parts.cuts.now m.map.pairs.now m.map.values.now m.input.now m.cache.now old new

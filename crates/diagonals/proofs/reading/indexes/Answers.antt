@@ -4,7 +4,7 @@ use Rattle.ring.specs.Vectors.{filled}
 use Rattle.ring.specs.Laws.Vectors.{filling_none, filling_more}
 use Rattle.diagonals.specs.Maps.{offset_at}
 use Rattle.diagonals.specs.Laws.Calls.{indexes_written, same_accepted, indexes_no_room}
-use Rattle.diagonals.proofs.Chunks.{entries_length, entry_low, entry_offset}
+use Rattle.diagonals.specs.Laws.Entries.{entries_length, entry_low, entry_offset}
 use Rattle.diagonals.proofs.reading.indexes.Goals as goal
 
 pub loop-i-init : goal.loop-i-init

@@ -1,8 +1,8 @@
 -- `linear_transformation::LinearTransformationStrategy::turns_each` meets its contract. Assumes nothing.
-use Rattle.linear_transformation.specs.Steps.Keys.{turns_each}
 use Rattle.linear_transformation.proofs.Strategies.{each_else}
 use Rattle.linear_transformation.proofs.LinearTransformationStrategy.turns_each.Goals as goal
 use Rattle.linear_transformation.proofs.LinearTransformationStrategy.turns_each.Goals.{in-BsgsPowersOfTwo, in_default}
+use Rattle.linear_transformation.specs.Steps.Strategies.{turns_each}
 
 pub returns : goal.returns
 unfolding turns_each

@@ -1,7 +1,16 @@
 -- `linear_transformation::giants::are_multiples` meets its contract. Assumes nothing.
-use borrow.Author.Rules.{rules}
-use Rattle.linear_transformation.proofs.Listings.{checking_done}
+use Rattle.std.proofs.Common.{◌≡◌, ℤ, ◌∙◌, rules}
+use Rattle.std.specs.List.{list_all}
+use Rattle.std.proofs.lemmas.Iterator.{YieldsList-from_slice}
+use Rattle.std.proofs.lemmas.Iterator.Search.{all_from_yields_List}
+use Rattle.ring.specs.Divisors.{divides}
+use Rattle.ring.specs.Residues.{residue_of}
+use Rattle.linear_transformation.proofs.Listings.{all_multiples}
 use Rattle.linear_transformation.proofs.giants.are_multiples.Goals as goal
 
 pub returns : goal.returns
-returns c = search (checking_done, rules)
+returns c =
+    let a = c.args in
+    let e : c.all.result ≡ list_all (λ (z : ℤ). divides a.step (residue_of z a.slots)) a.giants.now =
+    all_from_yields_List (λ (z : ℤ). divides a.step (residue_of z a.slots)) _ _ _ c.all.ensures.ran (YieldsList-from_slice a.giants.now c.iter.ensures.rest) (λ x b q k. search rules) in
+    e ∙ all_multiples a.slots a.step a.giants.now

@@ -1,6 +1,5 @@
 -- `linear_transformation::widths::optimal_bsgs_giant_step` meets its contract. Assumes nothing.
 use Rattle.std.proofs.Common.{arith}
-use Rattle.ring.specs.Laws.Refusals.{not_outside}
 use Rattle.linear_transformation.proofs.Sortings.{diagonals_few}
 use Rattle.linear_transformation.proofs.Weighings.{named_distinct}
 use Rattle.linear_transformation.proofs.widths.optimal_bsgs_giant_step.Goals as goal
@@ -10,8 +9,3 @@ sort_into-ds-requires-clause-indexes_in_bounds c = omega (arith, diagonals_few c
 
 pub best_width-requires-clause-distinct : goal.best_width-requires-clause-distinct
 best_width-requires-clause-distinct c = named_distinct c.args.indexes.now c.sort_into-ds.ensures
-
-pub returns : goal.returns
-returns c =
-    let i = c.is_outside.ensures.inside c.if-is_outside.false in
-    rw (not_outside _ i.0 i.1, c.best_width.ensures, c.sort_into-ds.ensures)

@@ -1,15 +1,12 @@
 -- `linear_transformation::widths::smallest_gap` meets its contract. Assumes nothing.
-use borrow.Author.Rules.{rules}
-use native.Mathlib.Omega.{arith}
-use Rattle.linear_transformation.proofs.Weighings.{gap_rises, narrowing_yes, narrowing_no, narrowing_done}
+use Rattle.linear_transformation.proofs.Weighings.{pair_rises, narrowing_more, narrowing_done}
 use Rattle.linear_transformation.proofs.widths.smallest_gap.Goals as goal
-use Rattle.linear_transformation.proofs.widths.smallest_gap.Goals.{else-next-gap, then-next-gap}
 
-pub overflow_sub-next-in-loop-t : goal.overflow_sub-next-in-loop-t
-overflow_sub-next-in-loop-t c = gap_rises c.args.ds.now c.loop-t.t c.requires.distinct.rises (search rules) (omega (arith, c.loop-t.invariant.behind))
+pub overflow_sub-pair : goal.overflow_sub-pair
+overflow_sub-pair c = pair_rises c.requires.distinct _ _ _ c.loop-pair.invariant c.in-Some.is c.next.ensures.steps
 
-pub loop-t-preserved : goal.loop-t-preserved
-loop-t-preserved c = elim c.if-next-gap.branch [ then-next-gap w ↦ rw w.gap-is (search (narrowing_yes, rules)) | else-next-gap w ↦ rw w.gap-is (search (narrowing_no, rules)) ]
+pub loop-pair-preserved : goal.loop-pair-preserved
+loop-pair-preserved c = narrowing_more c.requires.distinct _ _ _ c.loop-pair.invariant c.in-Some.is c.next.ensures.steps c.min-gap.ensures
 
 pub returns : goal.returns
-returns c = search (narrowing_done, rules)
+returns c = narrowing_done c.requires.distinct c.requires.in_bounds c.loop-pair.invariant c.in-None.ensures.steps.1.0

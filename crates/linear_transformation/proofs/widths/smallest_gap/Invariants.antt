@@ -2,5 +2,5 @@
 use Rattle.linear_transformation.proofs.Weighings.{Narrowing}
 use Rattle.linear_transformation.proofs.widths.smallest_gap.Given as goal
 
-abbrev pub invariant-loop-t : goal.invariant-loop-t
-invariant-loop-t l = Narrowing l.ds l.gap l.t
+abbrev pub invariant-loop-pair : goal.invariant-loop-pair
+invariant-loop-pair l = Narrowing l.ds l.pair-iterator.rest.now l.pair-iterator.size l.gap

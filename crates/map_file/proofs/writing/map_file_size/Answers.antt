@@ -1,26 +1,12 @@
 -- `map_file::writing::map_file_size` meets its contract. Assumes nothing.
-use mathlib.Core.Path.{ap, ◌∙◌}
-use native.Mathlib.Omega.{arith}
-use Rattle.std.specs.Prelude.{Ok}
+use Rattle.std.proofs.Common.{◌∙◌}
 use Rattle.ring.specs.Laws.Answers.{answered_accepted}
-use Rattle.map_file.specs.Steps.{StoredMap}
-use Rattle.map_file.proofs.StoredMaps.{stored_of, stored_size, small_size}
+use Rattle.diagonals.specs.Laws.Calls.{same_accepted}
+use Rattle.map_file.proofs.StoredMaps.{stored_of, stored_size}
 use Rattle.map_file.proofs.writing.map_file_size.Goals as goal
-
-pub overflow_mul-result : goal.overflow_mul-result
-overflow_mul-result c = let a = c.args in omega (arith, small_size a.slots a.count a.pairs.now a.values.now c.in_ok-total.was c.used_values.ensures)
-
-pub overflow_add-result : goal.overflow_add-result
-overflow_add-result c = let a = c.args in omega (arith, small_size a.slots a.count a.pairs.now a.values.now c.in_ok-total.was c.used_values.ensures)
-
-pub overflow_mul-result-2 : goal.overflow_mul-result-2
-overflow_mul-result-2 c = let a = c.args in omega (arith, small_size a.slots a.count a.pairs.now a.values.now c.in_ok-total.was c.used_values.ensures)
-
-pub overflow_add-result-2 : goal.overflow_add-result-2
-overflow_add-result-2 c = let a = c.args in omega (arith, small_size a.slots a.count a.pairs.now a.values.now c.in_ok-total.was c.used_values.ensures)
 
 pub returns : goal.returns
 returns c =
-    let a = c.args in
-    let s : StoredMap a.slots a.count a.pairs.now a.values.now c.in_ok-total.total = stored_of c.in_ok-total.was c.used_values.ensures in
-    ap Ok (stored_size s) ∙ answered_accepted _ _ s.accepted
+    let m = c.in_ok-accept.field-0 in
+    let same = c.in_ok-accept.ensures in
+    rw (c.file_size.ensures ∙ stored_size (stored_of m.in_range m.formed m.total_is), same.slots_is, same.count_is, same.pairs_is, same.values_is) (answered_accepted _ _ (same_accepted same m.in_range m.formed))

@@ -8,7 +8,8 @@ use Rattle.ring.specs.Vectors.{put_at}
 use Rattle.ring.specs.Laws.Vectors.{get_or_tabulate}
 use Rattle.ring.specs.Laws.Places.{put_both}
 use Rattle.diagonals.specs.Maps.{Diagonal, offset_at, length_at, diagonal_at, view, WellFormed}
-use Rattle.diagonals.specs.Laws.Maps.{length_view}
+use Rattle.diagonals.specs.Laws.Maps.{length_view, formed_means}
+use Rattle.diagonals.specs.Laws.Entries.{entries_length, entry_low, entry_offset, entry_length}
 use Rattle.map_file.specs.Files.{bytes_of, pair_bytes}
 use Rattle.map_file.specs.Laws.Numbers.{length_bytes_of}
 use Rattle.map_file.specs.Laws.Telling.{length_pair_bytes}
@@ -27,14 +28,22 @@ pair_put {slots} {count} {i} {at} {to} {x} {y} {pairs} {values} d old w l e room
 pub loop-i-init : goal.loop-i-init
 loop-i-init c = filing_none _ _ _ _
 
+pub put_u32-requires : goal.put_u32-requires
+put_u32-requires c = omega (arith, c.requires, c.loop-i.invariant.len, entry_low _ _ c.entries-offset-items.ensures c.loop-i-test.true)
+
+pub put_u32-requires-in-loop-i : goal.put_u32-requires-in-loop-i
+put_u32-requires-in-loop-i c = omega (arith, c.requires, c.loop-i.invariant.len, entry_low _ _ c.entries-offset-items.ensures c.loop-i-test.true)
+
 pub loop-i-preserved : goal.loop-i-preserved
 loop-i-preserved c =
-    let a = c.args in
-    let i = c.loop-i.i in
+    let m = c.args.map.now in
+    let e = c.entries-offset-items.ensures in
     let l = c.loop-i-test.true in
-    filing_more c.loop-i.invariant 8 length_pair_bytes (diagonal_at a.pairs.now a.values.now i) refl (omega (arith, length_view a.count a.pairs.now a.values.now)) (omega arith)
-    (pair_put _ c.loop-i.out c.requires.well_formed l refl (omega arith) c.offset_at.ensures c.length_at.ensures c.put_u32.ensures c.put_u32-in-loop-i.ensures)
+    let n : c.loop-i.i < m.count = entry_low _ _ e l in
+    filing_more c.loop-i.invariant 8 length_pair_bytes (diagonal_at m.pairs.now m.values.now c.loop-i.i) refl (omega (arith, length_view m.count m.pairs.now m.values.now, n)) (omega (arith, c.requires, n))
+    (pair_put _ c.loop-i.out (formed_means _ _ _ _ m.formed) (entry_low _ _ e l) refl (omega arith) (entry_offset _ _ e l) (entry_length _ _ e l) c.put_u32.ensures c.put_u32-in-loop-i.ensures)
 
 pub returns : goal.returns
 returns c =
-    let a = c.args in filing_done c.loop-i.invariant (omega (arith, length_view a.count a.pairs.now a.values.now))
+    let m = c.args.map.now in
+    filing_done c.loop-i.invariant (omega (arith, length_view m.count m.pairs.now m.values.now, entries_length _ _ c.entries-offset-items.ensures))

@@ -5,4 +5,4 @@ use Rattle.map_file.proofs.Filing.{Filing}
 use Rattle.map_file.proofs.writing.write_pairs.Given as goal
 
 abbrev pub invariant-loop-i : goal.invariant-loop-i
-invariant-loop-i l = Filing pair_bytes 8 (view l.count l.pairs l.values) l.initial.out l.out l.i
+invariant-loop-i l = Filing pair_bytes 8 (view l.map.count l.map.pairs.now l.map.values.now) l.initial.out l.out l.i

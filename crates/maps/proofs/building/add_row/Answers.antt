@@ -1,38 +1,12 @@
 -- `maps::building::add_row` meets its contract. Assumes nothing.
-use Rattle.std.proofs.Common.{◌+◌, ◌*◌, ◌<◌, length, get_or, sym, refl, ◌∙◌, rules, arith}
+use Rattle.std.proofs.Common.{sym, refl, ◌∙◌, arith}
 use Rattle.ring.specs.Slots.{addm}
-use Rattle.maps.proofs.Walks.{summing_none, summing_read, summing_some, summing_same, summing_done}
+use Rattle.maps.proofs.Walks.{summing_none, summing_some, summing_same, summing_done}
 use Rattle.maps.proofs.building.add_row.Goals as goal
 use Rattle.maps.proofs.building.add_row.Goals.{in-Some, in_default}
 
 pub loop-l-init : goal.loop-l-init
 loop-l-init g c = (rw c.period-period.ensures (summing_none c.requires.placed), c.width-l-end.ensures, c.period-period.ensures)
-
-pub overflow_mul-x : goal.overflow_mul-x
-overflow_mul-x g c =
-    let inside : get_or c.args.places.now c.offset_of-k.result 0 * c.period-period.result + c.args.t < length c.loop-l.values = search (summing_read, rules) in
-    search rules
-
-pub overflow_add-x : goal.overflow_add-x
-overflow_add-x g c =
-    let inside : get_or c.args.places.now c.offset_of-k.result 0 * c.period-period.result + c.args.t < length c.loop-l.values = search (summing_read, rules) in
-    search rules
-
-pub offset_bounds-values-x : goal.offset_bounds-values-x
-offset_bounds-values-x g c =
-    let inside : get_or c.args.places.now c.offset_of-k.result 0 * c.period-period.result + c.args.t < length c.loop-l.values = search (summing_read, rules) in
-    search rules
-
-pub bounds-values-x : goal.bounds-values-x
-bounds-values-x g c = search (summing_read, rules)
-
-pub offset_bounds-values-x-in-Some : goal.offset_bounds-values-x-in-Some
-offset_bounds-values-x-in-Some g c =
-    let inside : get_or c.args.places.now c.offset_of-k.result 0 * c.period-period.result + c.args.t < length c.loop-l.values = search (summing_read, rules) in
-    search rules
-
-pub bounds-values-x-in-Some : goal.bounds-values-x-in-Some
-bounds-values-x-in-Some g c = search (summing_read, rules)
 
 pub loop-l-preserved : goal.loop-l-preserved
 unfolding addm

@@ -1,6 +1,6 @@
 -- `sibukyaran::store::get_into` meets its contract. Assumes nothing.
 use Rattle.std.specs.Prelude.{None, Result, Ok}
-use Rattle.std.proofs.Common.{◌≡◌, ℕ, ◌≤◌, Bool, ltb, List, [], ◌∷◌, ◌++◌, length, drop, ℤ, ◌∙◌, le-ltb, rules}
+use Rattle.std.proofs.Common.{◌≡◌, ℕ, ◌≤◌, ltb, List, [], ◌∷◌, ◌++◌, length, drop, ℤ, ◌∙◌, le-ltb, rules}
 use Rattle.ring.specs.declared.refusal.Refusal.{Refusal}
 use Rattle.ring.specs.declared.refusal.Refusal.TheVariants.{Room}
 use Rattle.ring.specs.Vectors.{in_front}

@@ -1,23 +1,21 @@
 -- `diagonals::map::Map::accept` meets its contract. Assumes nothing.
-use Rattle.std.proofs.Common.{◌≡◌, false, sym, ◌∙◌}
-use Rattle.ring.specs.Refusals.{outside}
-use Rattle.diagonals.specs.Maps.{well_formed}
+use Rattle.std.proofs.Common.{◌≡◌, ℕ, Bool, true, false, None, Some, refl, sym, ◌∙◌}
+use Rattle.std.specs.Bool.{then_some}
 use Rattle.diagonals.proofs.map.Map.accept.Goals as goal
-use Rattle.diagonals.proofs.map.Map.accept.Goals.{then-not-has_pairs-via-then-not-has_pairs, then-not-has_pairs-via-else-not-has_pairs+then-not-is_formed}
 
-pub returns-then-not-has_pairs : goal.returns-then-not-has_pairs
-unfolding well_formed
-returns-then-not-has_pairs c =
-    let inside-slots : outside c.args.slots ≡ false = sym c.is_outside.ensures.answer ∙ c.if-is_outside.false in
-    elim c.then-not-has_pairs.branch [
-      | then-not-has_pairs-via-then-not-has_pairs w ↦ rw (inside-slots, sym c.has_pairs.ensures ∙ w.if-not-has_pairs.true)
-      | then-not-has_pairs-via-else-not-has_pairs+then-not-is_formed w ↦ rw (inside-slots, sym c.has_pairs.ensures ∙ w.if-not-has_pairs.false, sym w.is_formed.ensures ∙ w.if-not-is_formed.true)
-    ]
+-- what the test of a map tells
+passed : (b : Bool) (n : ℕ) {total : ℕ} → Some total ≡ then_some b n → (b ≡ true) × (total ≡ n)
+passed true n e = (refl, cc)
+passed false n e = cc
+
+failed : (b : Bool) (n : ℕ) → None ≡ then_some b n → b ≡ false
+failed true n e = cc
+failed false n e = refl
+
+pub returns-in_default : goal.returns-in_default
+returns-in_default c = rw (sym c.is_outside.ensures.answer ∙ c.if-is_outside.false, failed _ _ c.in_default.ensures) refl
 
 pub invariant_of-result : goal.invariant_of-result
-unfolding well_formed
 invariant_of-result c =
-    record {
-      in_range = sym c.is_outside.ensures.answer ∙ c.if-is_outside.false;
-      formed = rw (sym c.has_pairs.ensures ∙ c.if-not-has_pairs.false, sym c.is_formed.ensures ∙ c.if-not-is_formed.false);
-    }
+    let p = passed _ _ c.in-Some.ensures in
+    record { in_range = sym c.is_outside.ensures.answer ∙ c.if-is_outside.false; formed = p.0; total_is = p.1 }

@@ -2,8 +2,8 @@
 use Rattle.std.proofs.Common.{refl, sym, ◌∙◌, arith}
 use Rattle.ring.specs.Laws.Answers.{same_value}
 use Rattle.diagonals.specs.Laws.Maps.{formed_means}
-use Rattle.diagonals.proofs.Chunks.{entries_length, entry_low, entry_length}
-use Rattle.diagonals.proofs.Walking.{walk_part, walk_rest, walk_fits}
+use Rattle.diagonals.specs.Laws.Entries.{entries_length, entry_low, entry_length}
+use Rattle.diagonals.specs.Laws.Entries.{walk_part, walk_rest, walk_fits}
 use Rattle.diagonals.proofs.Folding.{folding_none, folding_more, folding_done, range_of, smallest_given, smallest_is, common_given}
 use Rattle.diagonals.proofs.map.Map.common_period.Goals as goal
 

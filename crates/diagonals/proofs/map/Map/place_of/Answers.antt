@@ -2,7 +2,8 @@
 use Rattle.std.proofs.Common.{ltb, slice_index_or, rules, arith}
 use Rattle.std.proofs.lemmas.Fn.{always_returns_same}
 use Rattle.diagonals.specs.Laws.Maps.{formed_means}
-use Rattle.diagonals.proofs.Chunks.{entries_length, point_placed}
+use Rattle.diagonals.specs.Laws.Entries.{entries_length}
+use Rattle.diagonals.proofs.Chunks.{point_placed}
 use Rattle.diagonals.proofs.map.Map.place_of.Goals as goal
 
 pub returns : goal.returns

@@ -1,8 +1,8 @@
 -- `diagonals::map::Map::write_shrunk` meets its contract. Assumes nothing.
 use Rattle.std.proofs.Common.{◌∙◌, arith}
 use Rattle.diagonals.specs.Laws.Maps.{formed_means}
-use Rattle.diagonals.proofs.Chunks.{entries_length, entry_low, entry_offset, entry_length}
-use Rattle.diagonals.proofs.Walking.{walk_part, walk_rest, walk_fits}
+use Rattle.diagonals.specs.Laws.Entries.{entries_length, entry_low, entry_offset, entry_length}
+use Rattle.diagonals.specs.Laws.Entries.{walk_part, walk_rest, walk_fits}
 use Rattle.diagonals.proofs.Shrinkage.{shrinkage_none, shrinkage_more, shrinkage_appending, shrinkage_done}
 use Rattle.diagonals.proofs.map.Map.write_shrunk.Goals as goal
 

@@ -1,0 +1,6 @@
+-- `linear_transformation::giants::GiantList::write_leaves` meets its contract. Assumes nothing.
+use Rattle.linear_transformation.proofs.Listings.{LeafWriting}
+use Rattle.linear_transformation.proofs.giants.GiantList.write_leaves.Given as goal
+
+abbrev pub invariant-loop-t : goal.invariant-loop-t
+invariant-loop-t l = LeafWriting l.self.slots l.self.step l.bits l.self.giants.now l.initial.leaves l.leaves l.t

@@ -1,6 +1,0 @@
--- `linear_transformation::records::write_level` meets its contract. Assumes nothing.
-use Rattle.linear_transformation.proofs.Recording.{Pairing}
-use Rattle.linear_transformation.proofs.records.write_level.Given as goal
-
-abbrev pub invariant-loop-k : goal.invariant-loop-k
-invariant-loop-k l = Pairing l.heap l.m l.at l.initial.records l.records l.to l.k

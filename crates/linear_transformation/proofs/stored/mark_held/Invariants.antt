@@ -1,6 +1,0 @@
--- `linear_transformation::stored::mark_held` meets its contract. Assumes nothing.
-use Rattle.linear_transformation.proofs.Missings.{Holding}
-use Rattle.linear_transformation.proofs.stored.mark_held.Given as goal
-
-abbrev pub invariant-loop-k : goal.invariant-loop-k
-invariant-loop-k l = Holding l.held l.seen l.k-index
