@@ -4,8 +4,8 @@
  * lent word and record as it was, and its value is 0. A slice is a pointer and a count; of a count of 0 the pointer is not
  * read. Lent outputs overlap nothing else that is lent to the same call.
  *
- * Stack: a call needs up to 582 KiB (the keyed run; the best width 578, the plan's keys 514, the builders of maps 320, the
- * plain run 4), measured on x86-64. A thread of 1 MiB is enough for each.
+ * Stack: a call needs up to 581 KiB (the best width; the keyed run 578, the plan's keys 453, the plan 329, the builders of
+ * maps 321, the plain run 5), measured on x86-64. A thread of 1 MiB is enough for each.
  */
 #ifndef SIBUKYARAN_H
 #define SIBUKYARAN_H

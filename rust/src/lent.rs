@@ -2,7 +2,7 @@
 //! allocated, and an answer is its numbers, the refusal first (0 for none). A refused call leaves every lent word and record
 //! as it was, and every other number of its answer is 0 or false. All `unsafe` of the crate is here.
 //!
-//! A call needs up to 582 KiB of stack (the keyed run), so a thread of 1 MiB is enough for each. Frames are touched page by
+//! A call needs up to 581 KiB of stack (the best width), so a thread of 1 MiB is enough for each. Frames are touched page by
 //! page, so that on a smaller stack a call ends the program and writes to no other memory.
 //!
 //! ```

@@ -22,7 +22,7 @@
 //! # Ok::<(), Refusal>(())
 //! ```
 //!
-//! Who wants to lend memory finds every call of the library in [`lent`]. A call needs up to 582 KiB of stack, so that a
+//! Who wants to lend memory finds every call of the library in [`lent`]. A call needs up to 581 KiB of stack, so that a
 //! thread of 1 MiB is enough.
 
 mod diagonals;

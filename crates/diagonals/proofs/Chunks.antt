@@ -8,9 +8,10 @@ use Rattle.std.proofs.lemmas.List.Sums.{sum_by_push, sum_by-take-drop}
 use Rattle.std.specs.Simd.{first_chunks}
 use Rattle.ring.specs.Vectors.{tabulate}
 use Rattle.ring.specs.Laws.Vectors.{get_or_tabulate, is_tabulate, tabulate_cong, tabulate_snoc}
-use Rattle.diagonals.specs.Maps.{pair_room, offset_at, length_at, pair_at, start_at}
+use Rattle.diagonals.specs.Maps.{pair_room, offset_at, length_at, pair_at, start_at, well_formed}
 use Rattle.diagonals.specs.Steps.Reading.{Placed}
-use Rattle.diagonals.specs.Laws.Entries.{entries_length, entry_offset}
+use Rattle.diagonals.specs.Laws.Maps.{formed_means, placed_fits}
+use Rattle.diagonals.specs.Laws.Entries.{entries_length, entry_low, entry_offset, entry_length}
 
 -- two words further on
 shifted : (a b : ℕ) (ws : List ℕ) (i : ℕ) → pair_at ws i ≡ pair_at (a ∷ b ∷ ws) (suc i)
@@ -80,3 +81,18 @@ point_placed {pairs} {n} {k} {index} {items} e rising b h =
 
     above : index < n → ltb (slice_index_or (slice_index_or items index []) 0 0) k ≡ false → k ≤ offset_at pairs index
     above l t = ltb-false _ _ (rw (entry_offset _ _ e (let m : index < length items = omega (arith, entries_length _ _ e) in m)) at t)
+
+-- the pair that a `get` at i gives
+module _ (pairs : List ℕ) (n : ℕ) {items : List (List ℕ)} (e : items ≡ tabulate n (pair_at pairs)) {i : ℕ} {item : List ℕ} (f : (i < length items) × ((d : List ℕ) → item ≡ slice_index_or items i d)) where
+  pub gotten_low : i < n
+  gotten_low = entry_low pairs n e f.0
+
+  pub gotten_offset : slice_index_or item 0 0 ≡ offset_at pairs i
+  gotten_offset = rw (f.1 []) (entry_offset pairs n e f.0)
+
+  pub gotten_length : slice_index_or item 1 0 ≡ length_at pairs i
+  gotten_length = rw (f.1 []) (entry_length pairs n e f.0)
+
+  -- its values are there
+  pub gotten_fits : (slots k start : ℕ) (values : List ℕ) → well_formed slots n pairs values ≡ true → Placed n pairs k i → start_at pairs 0 + start ≡ start_at pairs i → start + slice_index_or item 1 0 ≤ length values
+  gotten_fits slots k start values h p q = placed_fits (formed_means slots n pairs values h) p (λ e. omega (arith, e, gotten_low)) (start_first pairs i q) gotten_length

@@ -30,18 +30,6 @@ pub record Turnings (slots count first : ℕ) (pairs values pairs₀ pairs₁ va
   pub words : Words (front_of slots count first pairs values n) pairs₀ pairs₁ values₀ values₁
 
 module _ {slots count first : ℕ} {pairs values : List ℕ} {front : ℕ} {pairs₀ values₀ : List ℕ} (o : Range slots) (w : WellFormed slots count pairs values) (r : Rest slots count first pairs values front pairs₀ values₀) where
-  pub turnings_none : {total : ℕ} → total ≡ start_at pairs count → Turnings slots count first pairs values pairs₀ pairs₀ values₀ values₀ total front count first
-  turnings_none e =
-      record {
-        room = r.inside;
-        low = omega arith;
-        down = refl;
-        end_is = e;
-        at_end = omega (arith, e, r.front_is);
-        at_is = r.front_words;
-        words = r.there;
-      }
-
   module _ {pairs₁ values₁ : List ℕ} {end at i n : ℕ} (t : Turnings slots count first pairs values pairs₀ pairs₁ values₀ values₁ end at i n) where
     -- the buffers keep their lengths
     pub turnings_lengths : (length pairs₁ ≡ length pairs₀) × (length values₁ ≡ length values₀)

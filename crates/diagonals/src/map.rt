@@ -82,7 +82,6 @@ impl<'p, 'v> Map<'p, 'v> {
     }
 
     // Offset and stored length of each diagonal.
-    // Kept: `has_top` of a trait is no twin, only a line of the same shape.
     pub fn entries(&self) -> &'p [[u32; 2]]
         ensures { result.now ≡ tabulate self.now.count (pair_at self.now.pairs.now) }
     {
@@ -109,18 +108,19 @@ impl<'p, 'v> Map<'p, 'v> {
     }
 
     // One period of the diagonal at `index`, a part of values; empty where it is absent.
-    pub(crate) fn get(&self, index: i64) -> &'v [u64]
+    pub fn get(&self, index: i64) -> &'v [u64]
         ensures { result.now ≡ stretch (view self.now.count self.now.pairs.now self.now.values.now) (residue_of index self.now.slots) }
     {
         let values = self.values;
         let k = ring::residue(index, self.slots as u32);
         let place = self.place_of(k);
-        if place == self.count || pairs::offset_at(self.pairs, place) != k {
-            return &values[..0];
+        match self.entries().get(place) {
+            Some(&[offset, len]) if offset == k => {
+                let start = self.values_between(0, place);
+                &values[start..start + len as usize]
+            }
+            _ => &values[..0],
         }
-        let start = self.values_between(0, place);
-        let end = start + pairs::length_at(self.pairs, place) as usize;
-        &values[start..end]
     }
 }
 

@@ -26,7 +26,7 @@ pub fn is_empty(slots: usize, count: usize, pairs: &[u32], values: &[u64]) -> Re
 }
 
 // The number of values that a map has.
-// Kept: C lends a map as slots, a count and two buffers.
+// Kept: a public call takes a map's parts one by one, since its callers have no `Map`.
 pub fn used_values(
     slots: usize,
     count: usize,

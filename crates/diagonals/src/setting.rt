@@ -60,6 +60,7 @@ fn write_pair(pairs: &mut [u32], index: usize, behind: usize, count: usize, k: u
 }
 
 // Replaces or inserts the diagonal at `index`, and answers the number of pairs.
+// Kept: C lends a map as slots, a count and two buffers, which this call writes, and a `Map` has its buffers by `&`.
 pub fn set(
     slots: usize,
     count: usize,

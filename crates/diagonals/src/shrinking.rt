@@ -43,7 +43,7 @@ impl Map<'_, '_> {
 }
 
 // The least common multiple of the diagonals' smallest periods: the period that shrinking stores.
-// Kept: C lends a map as slots, a count and two buffers.
+// Kept: a public call takes a map's parts one by one, since its callers have no `Map`.
 pub fn shrunk_period(
     slots: usize,
     count: usize,

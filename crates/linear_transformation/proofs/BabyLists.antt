@@ -13,7 +13,7 @@ use borrow.Author.Tests.{eq-eqb, ne_eqb, lt-ltb, le-ltb}
 use lib.Dec.{eqb, ltb}
 use lib.IntN.{ℤ, pos, nat_abs}
 use lib.ListN.{length, get_or, set, take, drop, length-set, length-append, length-map, get_or-map, take-append-drop}
-use lib.Seq.{take_all, split_at, length-take-le}
+use lib.Seq.{split_at, length-take-le}
 use Rattle.ring.specs.Lists.{join, Each, among}
 use Rattle.ring.specs.Vectors.{in_front}
 use Rattle.ring.specs.Searches.{below, only}
@@ -25,7 +25,7 @@ use Rattle.ring.specs.declared.refusal.Refusal.TheVariants.{Room}
 use Rattle.ring.specs.Laws.Lists.{join_more, join_append}
 use Rattle.ring.specs.Laws.Vectors.{in_front_more}
 use Rattle.ring.specs.Laws.Below.{below_ext}
-use Rattle.ring.specs.Laws.Refusals.{first_later}
+use Rattle.ring.specs.Laws.Refusals.{first_later, still_refused}
 use Rattle.linear_transformation.specs.declared.rotations.BsgsRotations.{BsgsRotations}
 use Rattle.linear_transformation.specs.declared.rotations.BsgsRotations.TheVariants.{PerRotation, PowersOfTwo}
 use Rattle.linear_transformation.specs.Closures.{closure, pass_rotations, nonzeros}
@@ -34,7 +34,6 @@ use Rattle.linear_transformation.specs.Calls.{ListWritten}
 use Rattle.linear_transformation.specs.Steps.Babies.{Babies, BabiesAccepted, Marked, Enclosed, Reached}
 use Rattle.linear_transformation.specs.Laws.Passes.{rotations_are}
 use Rattle.linear_transformation.specs.Laws.Tables.{bounded_below}
-use Rattle.linear_transformation.proofs.Judgings.{still_refused}
 use Rattle.linear_transformation.proofs.BabyTables.{times, read, word_at}
 use Rattle.linear_transformation.specs.Steps.Tables.{tops_of}
 
@@ -91,13 +90,6 @@ module _ {g : ℕ → List ℕ} {front ks out₀ out : List ℕ} {at t : ℕ} (s
         len = simp length-set s.len;
         at_is = rw (more, e) (sym (length-append xs (v ∷ w ∷ []) ∙ rw s.at_is));
       }
-
-module _ {g : ℕ → List ℕ} {front ks out₀ out : List ℕ} {at t : ℕ} (s : Sieving g front ks out₀ out at t) (h : length ks ≤ t) where
-  pub sieving_done : out ≡ in_front (front ++ join g ks) out₀
-  sieving_done = s.so_far ∙ ap (λ (x : List ℕ). in_front (front ++ join g x) out₀) (take_all t ks h)
-
-  pub sieving_end : at ≡ length (front ++ join g ks)
-  sieving_end = s.at_is ∙ ap (λ (x : List ℕ). length (front ++ join g x)) (take_all t ks h)
 
 -- ---- numbers that are not 0
 

@@ -37,8 +37,9 @@ use Rattle.linear_transformation.proofs.Writings.{writing_front}
 use Rattle.linear_transformation.proofs.BabyChecks.{word_is}
 use Rattle.linear_transformation.proofs.Signs.{max_is}
 use Rattle.linear_transformation.specs.Steps.Babies.{Babies, Small, Folded, Clears, Closes, Marked, Enclosed}
-use Rattle.ring.specs.Laws.Members.{some_append, one_of, left, right, among_head, among_below, below_among}
+use Rattle.ring.specs.Laws.Members.{some_append, one_of, left, right, among_below, below_among}
 use Rattle.linear_transformation.specs.Laws.Closures.{top_unique, top_low, top_high, positive}
+use Rattle.linear_transformation.specs.Laws.Stored.{some_target}
 use Rattle.linear_transformation.specs.Laws.Passes.{target_is, is_target, rotations_are}
 use Rattle.linear_transformation.specs.Laws.Tables.{agree, closes_below}
 use Rattle.linear_transformation.specs.Steps.Tables.{Writing, Bounded, tops_of}
@@ -347,10 +348,6 @@ non_empty_yes : (k : ℕ) (xs : List ℕ) → among k xs ≡ true → non_empty 
 non_empty_yes k [] h = h
 non_empty_yes k (x ∷ xs) h = refl
 
-non_empty_where : (xs : List ℕ) → non_empty xs ≡ true → (k : ℕ) × (among k xs ≡ true)
-non_empty_where [] h = absurd (true≢false (sym h))
-non_empty_where (x ∷ xs) h = (x, among_head x xs)
-
 -- some number from p up to 2p is marked exactly if p = 2^i is the top bit of a marked number below n
 pub tops_marked : (seen : List Bool) (n i : ℕ) {p end : ℕ} → p ≡ 2 ^ i → end ≡ min (2 * p) n → list_any (marks seen) (range_with_len p (end - p)) ≡ non_empty (targets (below (marks seen) n) i)
 tops_marked seen n i {p} {end} q e = agree yes_so so_yes
@@ -370,7 +367,7 @@ tops_marked seen n i {p} {end} q e = agree yes_so so_yes
 
     so_yes : non_empty (targets (below (marks seen) n) i) ≡ true → list_any (marks seen) (range_with_len p (end - p)) ≡ true
     so_yes h =
-        let w = non_empty_where (targets (below (marks seen) n) i) h in
+        let w = some_target (targets (below (marks seen) n) i) h in
         let t = target_is (below (marks seen) n) i w.0 w.1 in
         let b = below_among w.0 (marks seen) n t.among_cached in
         let x : top_bit w.0 ≡ i = t.topped in

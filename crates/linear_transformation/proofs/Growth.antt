@@ -125,7 +125,7 @@ module _ (b g n : ℕ) (gs : List ℤ) (ls vs : List ℕ) (ps : List PairRecord)
   refused_by q = let k = records_refused {t = list_tree n g gs} q ps in record { answer = k.answer; leaves_are = rw q; levels_are = rw q; records_are = k.records_are }
 
   module _ (z : first_refusal (giant_refusals (PowersOfTwo b g n) gs) ≡ None) {t : HeapTree} (o : TreeOf n g gs t) {count : ℕ} (c : count ≡ switches_in t) where
-    abbrev s : Sizes n g gs t.heap.now t.bits count
+    abbrev s : Sizes n g gs t.nodes.now t.bits count
     s = sizes o.planted c
 
     later : tree_refusal ≡ first_refusal (tree_room (list_tree n g gs) ls vs (length ps))

@@ -204,7 +204,7 @@ module _ {slots width : ℕ} {ds : List ℕ} (z : Sizable slots width ds) {seen 
   power_length = sym (ap length (sym power_keys_are) ∙ length-append turns steps ∙ rw (turns_length, d))
 
   pub power_small : passes + levels ≤ 32
-  power_small = omega (arith, c, below_le (λ i. non_empty (targets (below (marks seen) n) i)) 16, d, keyed_few (levels_in h), levels_length h.slots h.step h.bits h.heap.now h.bits, h.low)
+  power_small = omega (arith, c, below_le (λ i. non_empty (targets (below (marks seen) n) i)) 16, d, keyed_few (levels_in h), levels_length h.steps.slots h.steps.step h.bits h.nodes.now h.bits, h.low)
 
   module _ (old : List ℕ) where
     pub power_short : length old < passes + levels → ListWritten [] (plan_keys slots (BsgsPowersOfTwo width) ds) old old (Err Room)

@@ -28,7 +28,7 @@ use Rattle.linear_transformation.specs.declared.plan.PlanSizes.{PlanSizes}
 use Rattle.linear_transformation.specs.declared.digits.Digit.{Digit}
 use Rattle.linear_transformation.specs.Plans.{width_of, babies, giants, Planned}
 use Rattle.linear_transformation.specs.Steps.Plans.{Diagonals, multiples, BabiesMarked, StepIs, MultiplesEnd, WordsWritten, RunEnd, RunFrom}
-use Rattle.linear_transformation.specs.Steps.Trees.{OneGiant, DigitIs, LargestIs, LeafAsked, LeafIs, leaves_at, Blank, LeavesMarked}
+use Rattle.linear_transformation.specs.Steps.Trees.{Listed, DigitIs, LargestIs, LeafIs, leaves_at, Blank, LeavesMarked}
 use Rattle.linear_transformation.specs.Steps.Keys.{Sizable, Accepted, BabyTable, ClosureTable, giants_of}
 use Rattle.linear_transformation.specs.Laws.Plans.{giant_le, giant_times}
 use Rattle.linear_transformation.specs.Laws.Runs.{planned_bound, giants_none, Walked, walked_none, walked_more, walked_giants}
@@ -65,13 +65,10 @@ module _ {slots width : ℕ} {ds : List ℕ} (z : Sizable slots width ds) where
     giant_word : to_z w64 giant ≡ pos giant
     giant_word = natural_is giant (omega (arith, giant_low, z.slots_in_fact.high))
 
-    pub plan_giant : OneGiant slots width (to_z w64 giant)
+    pub plan_giant : Listed slots width (to_z w64 giant)
     plan_giant =
         let e : residue_of (to_z w64 giant) slots ≡ giant = ap (λ (g : ℤ). residue_of g slots) giant_word ∙ residue_pos giant slots z.slots_in_fact.low ∙ mod-eq_of_lt giant_low in
-        record { stepped = is_stepped; listed = rw (e, r.giant_is, giant_times width (get_or ds at 0)) (mul-mod_left _ width) }
-
-    pub plan_leaf : {bits : ℕ} → bits ≤ 16 → LeafAsked slots width bits (to_z w64 giant)
-    plan_leaf b = record { giant = plan_giant; small = b }
+        rw (e, r.giant_is, giant_times width (get_or ds at 0)) (mul-mod_left _ width)
 
     giants_more : Walked width ds at → giants_of width (take end ds) ≡ giants_of width (take at ds) ++ (pos giant ∷ [])
     giants_more w = ap (map pos) (walked_giants wide_planned w l r) ∙ map-append pos (giants 65536 width (take at ds)) (giant ∷ [])

@@ -23,4 +23,5 @@ pub mod Facts
 pub mod KeyAnswers
 pub mod Storings
 pub mod Missings
+pub mod OwnKeys
 pub mod LeafBits

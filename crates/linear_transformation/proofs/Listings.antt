@@ -32,7 +32,8 @@ use Rattle.ring.specs.Laws.Residues.{residue_lt}
 use Rattle.std.specs.Ordering.{ord_max, nat_cmp}
 use Rattle.linear_transformation.specs.declared.digits.Digit.{Digit}
 use Rattle.linear_transformation.specs.Digits.{rot_of, digit, largest, bits_of, leaf, Giant}
-use Rattle.linear_transformation.specs.Steps.Trees.{Listed, OneGiant, digit_at, DigitIs, LargestIs, BitsAre, LeafIs, leaves_at, Blank, LeavesMarked}
+use Rattle.linear_transformation.specs.Steps.Numbers.{Stepped}
+use Rattle.linear_transformation.specs.Steps.Trees.{Listed, digit_at, DigitIs, LargestIs, BitsAre, LeafIs, leaves_at, Blank, LeavesMarked}
 use Rattle.linear_transformation.specs.Laws.Bits.{digit_small, bits_positive, bits_least, bits_small, small_all}
 use Rattle.linear_transformation.proofs.Signs.{max_is}
 
@@ -72,12 +73,12 @@ all_multiples slots step (g ∷ gs) = rw (all_multiples slots step gs) (both (di
 
 -- ---- digits
 
-module _ {slots step : ℕ} {z : ℤ} (g : OneGiant slots step z) where
+module _ {slots step : ℕ} {z : ℤ} (s : Stepped slots step) (l : Listed slots step z) where
   pub digit_made : {r : ℕ} {d : Digit} → r ≡ residue_of z slots → d ≡ digit slots step (record { 0 = r }) → DigitIs slots step z d
   digit_made {r} {d} e q =
       let f : d ≡ digit_at slots step z = q ∙ ap (λ (x : ℕ). digit slots step (record { 0 = x })) e in
-      let a : Giant slots step (rot_of slots z) = record { reduced = residue_lt z slots g.stepped.some; multiple = g.listed } in
-      record { is = f; small = rw f (digit_small slots step g.stepped.positive g.stepped.small (rot_of slots z) a) }
+      let a : Giant slots step (rot_of slots z) = record { reduced = residue_lt z slots s.some; multiple = l } in
+      record { is = f; small = rw f (digit_small slots step s.positive s.small (rot_of slots z) a) }
 
 -- ---- the largest digit
 

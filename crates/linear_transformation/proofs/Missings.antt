@@ -11,7 +11,6 @@ use borrow.Author.Tests.{eqb-true, ne_eqb, le-ltb}
 use lib.Dec.{eqb, ltb}
 use lib.ListN.{length, take, drop}
 use lib.Seq.{take_at}
-use Rattle.std.specs.List.{list_any}
 use Rattle.ring.specs.Lists.{some, among, Each}
 use Rattle.ring.specs.Marks.{marks}
 use Rattle.ring.specs.Vectors.{in_front}
@@ -20,7 +19,7 @@ use Rattle.std.specs.Prelude.{None, Some, Result, Ok, Err}
 use Rattle.ring.specs.declared.refusal.Refusal.{Refusal}
 use Rattle.ring.specs.declared.refusal.Refusal.TheVariants.{Key, Room}
 use Rattle.ring.specs.Laws.Answers.{same_value}
-use Rattle.ring.specs.Laws.Refusals.{first_later}
+use Rattle.ring.specs.Laws.Refusals.{first_later, still_refused}
 use Rattle.ring.specs.Laws.Lists.{each_then}
 use Rattle.ring.specs.Laws.Searches.{both, first, second}
 use Rattle.ring.specs.Laws.Members.{one_of, left, right, among_left, among_right, among_split, among_some, below_among, each_among}
@@ -43,7 +42,6 @@ use Rattle.linear_transformation.specs.Laws.Runs.{some_member, giants_bound, bab
 use Rattle.linear_transformation.specs.Laws.CommonDivisors.{baby_step_bound}
 use Rattle.linear_transformation.specs.Laws.Tables.{agree}
 use Rattle.linear_transformation.specs.Laws.Stored.{keys_low, power_keys_few, babies_switched}
-use Rattle.linear_transformation.proofs.Judgings.{still_refused}
 use Rattle.linear_transformation.proofs.Keyings.{width_range}
 use Rattle.linear_transformation.proofs.Strategies.{Own, powers}
 use Rattle.linear_transformation.proofs.Growth.{sizes}
@@ -135,11 +133,6 @@ unmarked_missing (k ∷ keys) l m = rw (m.are k l.0, unmarked_missing keys l.1 m
 pub listed_lacking : {keys : List ℕ} {seen : List Bool} {r : Bool} → Each (λ k. k < 65536) keys → r ≡ some (λ k. not (marks seen k)) keys → Lacking keys seen r
 unfolding is_missing
 listed_lacking {keys} l e = record { are = λ held m. e ∙ unmarked_missing keys l m }
-
--- `any` over a list
-pub list_some : {A : Type 0} (p : A → Bool) (xs : List A) → list_any p xs ≡ some p xs
-list_some p [] = refl
-list_some p (x ∷ xs) = rw (list_some p xs)
 
 -- ---- the keys with powers of two
 

@@ -19,7 +19,7 @@ use Rattle.ring.specs.Refusals.{first_refusal, outside, Range}
 use Rattle.ring.specs.Marks.{marks}
 use Rattle.ring.specs.Laws.Lists.{each_then, each_both, each_map}
 use Rattle.ring.specs.Laws.Searches.{by_false}
-use Rattle.ring.specs.Laws.Refusals.{inside, first_later}
+use Rattle.ring.specs.Laws.Refusals.{inside, first_later, still_refused}
 use Rattle.ring.specs.Laws.Below.{below_le, below_ext}
 use Rattle.linear_transformation.specs.Plans.{width_of, babies, giants, plan_pairs, plan_index, words_with, Planned}
 use Rattle.ring.specs.Residues.{diagonals_of}
@@ -37,7 +37,6 @@ use Rattle.linear_transformation.specs.Laws.Closures.{cleared_lower, positive, c
 use Rattle.linear_transformation.specs.Laws.Tables.{closes_closure}
 use Rattle.linear_transformation.specs.Laws.Runs.{planned_length, planned_bound, giants_bound, babies_bound, words_bound, pairs_as_words, pairs_words_length, giants_few}
 use Rattle.linear_transformation.specs.Laws.CommonDivisors.{baby_step_bound}
-use Rattle.linear_transformation.proofs.Judgings.{still_refused}
 use Rattle.linear_transformation.proofs.Writings.{writing_then, writing_done}
 use Rattle.linear_transformation.specs.Steps.Tables.{Bounded, Writing}
 

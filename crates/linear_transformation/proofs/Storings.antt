@@ -1,20 +1,24 @@
 -- The calls about stored offsets: the walk that tests them, refusals, plans and trees.
 -- Assumes nothing.
-use Prim.Native.Nat.{ℕ, ◌≤◌, ◌<◌}
+use Prim.Native.Nat.{ℕ, suc, ◌+◌, ◌≤◌, ◌<◌}
 use mathlib.Core.Path.{◌≡◌, refl, sym, ap, ◌∙◌, subst}
 use mathlib.Core.Bool.{Bool, true, false, true≢false}
 use mathlib.Core.List.{List, [], ◌∷◌, ◌++◌}
 use native.Mathlib.Omega.{arith}
-use borrow.Author.Tests.{le-leb, lt-leb, lt-ltb, le-ltb}
-use lib.Dec.{ltb}
+use native.Mathlib.Nat.{le_refl}
+use native.Mathlib.Numerals.{add-one}
+use mathlib.Core.Logic.{⊎_elim}
+use borrow.Author.Tests.{lt-leb, lt-ltb, le-ltb, ltb-true, ltb-false}
+use lib.Dec.{ltb, leb}
 use lib.ListN.{length, get_or}
 use Rattle.ring.specs.Vectors.{in_front}
 use Rattle.std.specs.Prelude.{Option, None, Some, Result, Ok, Err}
 use Rattle.ring.specs.declared.refusal.Refusal.{Refusal}
 use Rattle.ring.specs.declared.refusal.Refusal.TheVariants.{Room}
 use Rattle.ring.specs.Refusals.{first_refusal, outside}
-use Rattle.ring.specs.Laws.Searches.{every_all, every_fails}
-use Rattle.ring.specs.Laws.Refusals.{first_later}
+use Rattle.ring.specs.Lists.{Rising}
+use Rattle.ring.specs.Laws.Searches.{second, lt_or_ge, every_all, every_at, every_fails}
+use Rattle.ring.specs.Laws.Refusals.{first_later, still_refused}
 use Rattle.linear_transformation.specs.declared.LinearTransformationStrategy.{LinearTransformationStrategy}
 use Rattle.linear_transformation.specs.declared.LinearTransformationStrategy.TheVariants.{Bsgs, BsgsPowersOfTwo, Direct}
 use Rattle.linear_transformation.specs.declared.plan.PlanSizes.{PlanSizes}
@@ -32,8 +36,9 @@ use Rattle.linear_transformation.specs.Steps.Trees.{Planted, TreeOf, heap_switch
 use Rattle.linear_transformation.specs.Steps.Keys.{Sizable, Accepted, giants_of}
 use Rattle.linear_transformation.specs.Steps.Records.{heap_records}
 use Rattle.linear_transformation.specs.Laws.Plans.{width_positive}
-use Rattle.linear_transformation.specs.Laws.Stored.{rise_distinct}
-use Rattle.linear_transformation.proofs.Judgings.{still_refused}
+use Rattle.linear_transformation.specs.Laws.Stored.{neighbours_rise, places_each, rise_distinct, distinct_rise}
+use Rattle.linear_transformation.specs.Laws.Runs.{rising_at}
+use Rattle.linear_transformation.specs.Laws.Tables.{agree}
 use Rattle.linear_transformation.proofs.Growth.{sizes, records_refused}
 use Rattle.linear_transformation.proofs.PlanAnswers.{in_range_lem, words_same}
 use Rattle.linear_transformation.proofs.KeyAnswers.{plan_tree_lem}
@@ -43,32 +48,32 @@ use Rattle.linear_transformation.specs.Steps.Strategies.{turns_each}
 
 -- ---- rising offsets
 
--- the offsets before t fit, and next is the least that the one at t may be
-pub record Ascending (slots : ℕ) (ks : List ℕ) (next t : ℕ) : Type 0 where
-  pub room : t ≤ length ks
-  pub next_is : next ≡ least_at ks t
-  pub so_far : (u : ℕ) → u < t → offset_fits slots ks u ≡ true
-
-module _ {slots : ℕ} {ks : List ℕ} {next t : ℕ} (s : Ascending slots ks next t) where
-  pub ascending_done : length ks ≤ t → true ≡ offsets_rise slots ks
+module _ (slots : ℕ) (ks : List ℕ) where
+  -- one is not above the one before it
+  pub falls : (k : ℕ) × (k + 1 < length ks) × ((d : ℕ) → false ≡ ltb (get_or ks k d) (get_or ks (k + 1) d)) → false ≡ offsets_rise slots ks
   unfolding offsets_rise
-  ascending_done h = sym (every_all (offset_fits slots ks) (length ks) (λ u l. s.so_far u (omega arith)))
+  falls (k, l, e) =
+      let q : ltb (get_or ks k 0) (get_or ks (suc k) 0) ≡ false = ap (λ j. ltb (get_or ks k 0) (get_or ks j 0)) (sym (add-one k)) ∙ sym (e 0) in
+      sym (every_fails (offset_fits slots ks) (length ks) (suc k) (omega (arith, l)) (rw (lt-leb (suc (get_or ks k 0)) (get_or ks (suc k) 0) (omega (arith, ltb-false _ _ q)))))
 
-  module _ (l : t < length ks) where
-    abbrev k : ℕ
-    k = get_or ks t 0
+  pub none_rises : length ks ≤ 0 → true ≡ offsets_rise slots ks
+  unfolding offsets_rise
+  none_rises l = sym (every_all (offset_fits slots ks) (length ks) (λ t h. absurd (omega arith)))
 
-    pub ascending_low : k < next → false ≡ offsets_rise slots ks
+  -- each is above the one before it: then the last decides whether all are below slots
+  module _ (h : (k d : ℕ) → k + 1 < length ks → true ≡ ltb (get_or ks k d) (get_or ks (k + 1) d)) (n : ℕ) (e : n + 1 ≡ length ks) where
+    rises : Rising ks
+    rises = neighbours_rise ks (λ t l. ltb-true _ _ (ap (λ j. ltb (get_or ks t 0) (get_or ks j 0)) (sym (add-one t)) ∙ sym (h t 0 (omega (arith, l)))))
+
+    below_last : (t : ℕ) → t < length ks → get_or ks t 0 ≤ get_or ks n 0
+    below_last t l = ⊎_elim (λ (m : t < n). omega (arith, rising_at ks 0 rises t n m (omega (arith, e)))) (λ (m : n ≤ t). let q : t ≡ n = omega (arith, e) in rw q (le_refl _)) (lt_or_ge t n)
+
+    pub last_decides : {x : ℕ} → x ≡ get_or ks n 0 → ltb x slots ≡ offsets_rise slots ks
     unfolding offsets_rise
-    ascending_low h = sym (every_fails (offset_fits slots ks) (length ks) t l (rw (lt-leb (least_at ks t) (get_or ks t 0) (omega (arith, s.next_is)))))
-
-    module _ (h : next ≤ k) where
-      high_enough : least_at ks t ≤ get_or ks t 0
-      high_enough = omega (arith, s.next_is)
-
-      pub ascending_high : slots ≤ k → false ≡ offsets_rise slots ks
-      unfolding offsets_rise
-      ascending_high m = sym (every_fails (offset_fits slots ks) (length ks) t l (rw (le-leb (least_at ks t) (get_or ks t 0) high_enough, le-ltb (get_or ks t 0) slots (omega arith))))
+    last_decides {x} q =
+        agree
+        (λ y. distinct_rise slots ks (record { rises = rises; low = places_each (λ k. k < slots) ks (λ t l. omega (arith, below_last t l, ltb-true x slots y)) }))
+        (λ y. lt-ltb x slots (omega (arith, ltb-true (get_or ks n 0) slots (second (leb (least_at ks n) (get_or ks n 0)) _ (every_at (offset_fits slots ks) (length ks) y n (omega (arith, e)))))))
 
 -- ---- refusals
 
@@ -128,7 +133,7 @@ plan_refused slots (Bsgs w) gs ps e h = absurd (true≢false e)
 plan_refused slots (BsgsPowersOfTwo w) gs ps e h = records_refused (still_refused (stored_refusals slots (BsgsPowersOfTwo w) gs) ((ltb (length ps) (pair_count slots (BsgsPowersOfTwo w) gs), Room) ∷ []) h) ps
 plan_refused slots Direct gs ps e h = absurd (true≢false e)
 
-module _ {slots : ℕ} {s : LinearTransformationStrategy} {gs : List ℕ} (x : Sorted) (k : DiagonalsAccepted (stored_refusals slots s gs) slots s gs x.slots x.strategy x.ds.now) (e : turns_each s ≡ false) {t : Standing} (p : TreeOf x.slots (width_of x.strategy) (giants_of (width_of x.strategy) x.ds.now) t) {count : ℕ} (c : count ≡ heap_switches t.bits t.heap.now t.bits) where
+module _ {slots : ℕ} {s : LinearTransformationStrategy} {gs : List ℕ} (x : Sorted) (k : DiagonalsAccepted (stored_refusals slots s gs) slots s gs x.slots x.strategy x.ds.now) (e : turns_each s ≡ false) {t : Standing} (p : TreeOf x.slots (width_of x.strategy) (giants_of (width_of x.strategy) x.ds.now) t) {count : ℕ} (c : count ≡ heap_switches t.bits t.nodes.now t.bits) where
   powers_are : x.strategy ≡ BsgsPowersOfTwo (width_of x.strategy)
   powers_are = powers (rw k.strategy_is e) refl
 
@@ -143,10 +148,10 @@ module _ {slots : ℕ} {s : LinearTransformationStrategy} {gs : List ℕ} (x : S
   pub plan_short : (ps : List PairRecord) → length ps < count → PlanRecordsWritten slots s gs ps ps (Err Room)
   plan_short ps l = told_there (powers_short (sizable x) p.planted c ps none_here l)
 
-  pub plan_room : length (heap_records t.bits t.heap.now) ≡ count
+  pub plan_room : length (heap_records t.bits t.nodes.now) ≡ count
   plan_room = records_room (sizable x) p.planted c
 
-  pub plan_told : (ps : List PairRecord) {ps' : List PairRecord} → count ≤ length ps → ps' ≡ in_front (heap_records t.bits t.heap.now) ps → PlanRecordsWritten slots s gs ps ps' (Ok (Some (record { bits = t.bits; pairs = count })))
+  pub plan_told : (ps : List PairRecord) {ps' : List PairRecord} → count ≤ length ps → ps' ≡ in_front (heap_records t.bits t.nodes.now) ps → PlanRecordsWritten slots s gs ps ps' (Ok (Some (record { bits = t.bits; pairs = count })))
   plan_told ps l q = told_there (powers_told (sizable x) p.planted c ps none_here l q)
 
 -- where each rotation has its own key, nothing is written

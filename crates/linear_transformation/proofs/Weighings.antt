@@ -24,14 +24,14 @@ use Rattle.std.specs.declared.slice.Windows.{Windows}
 use Rattle.std.specs.Slice.Iter.{windows_rest, windows_size, windows_steps}
 use Rattle.std.proofs.lemmas.Iterator.{window_more}
 use Rattle.std.specs.Ordering.{ord_max, nat_cmp}
-use Rattle.linear_transformation.specs.Plans.{baby_of, giant_of, giants, Planned, Distinct}
+use Rattle.linear_transformation.specs.Plans.{baby_of, giant_of, giants, Distinct}
 use Rattle.ring.specs.Residues.{diagonals_of}
 use Rattle.linear_transformation.specs.Widths.{gaps, smallest_gap, own_babies, cost, candidate, best_width}
 use Rattle.linear_transformation.specs.Steps.Plans.{Diagonals}
 use Rattle.linear_transformation.specs.Steps.Widths.{Choice, Fresh, Weighed, Narrowest}
 use Rattle.ring.specs.Laws.Members.{some_append, left, right, one_of, among_head, each_among}
 use Rattle.linear_transformation.specs.Laws.Plans.{planned, giant_baby, giant_le, baby_lt, giant_climbs}
-use Rattle.linear_transformation.specs.Laws.Runs.{Joins, giants_run}
+use Rattle.linear_transformation.specs.Laws.Runs.{planned_take, Joins, giants_run}
 use Rattle.linear_transformation.specs.Laws.Widths.{LastLeast, last_first, last_yes, last_no, last_skip, gaps_positive, smallest_is, smallest_found, smallest_low, candidate_yes, candidate_is, best_is, cost_bound}
 use Rattle.linear_transformation.proofs.Signs.{max_is}
 
@@ -56,7 +56,6 @@ gap_place (x ∷ y ∷ zs) h a =
 pub record Narrowing (ds left : List ℕ) (size gap : ℕ) : Type 0 where
   pub size_is : size ≡ 2
   pub short : length left ≤ length ds
-  pub some_left : 1 ≤ length left
   pub left_is : left ≡ drop (length ds - length left) ds
   pub there : (65536 ≤ gap) ⊎ ((1 ≤ gap) × (among gap (gaps ds) ≡ true))
   pub smallest : (i : ℕ) → suc i + length left ≤ length ds → gap ≤ get_or ds (suc i) 0 - get_or ds i 0
@@ -101,7 +100,6 @@ module _ {ds : List ℕ} (d : Distinct 65536 ds) (s t : Windows ℕ) {r : Option
       record {
         size_is = p.0 ∙ n.size_is;
         short = omega (arith, taken.0, n.short);
-        some_left = omega (arith, taken.0, taken.2, n.size_is);
         left_is = taken.1;
         there = inr (⊎_elim
             (λ (h : step < gap). let q : m ≡ step = omega arith in rw q (step_positive, step_there))
@@ -134,22 +132,6 @@ before_next : (ds : List ℕ) (t : ℕ) → Rising ds → t < length ds → Each
 before_next [] t r l = absurd (not-suc-le-zero l)
 before_next (x ∷ xs) zero r l = tt
 before_next (x ∷ xs) (suc t) r l = (each_at (λ y. x < y) xs 0 r.0 t (le_of_suc-le-suc l), before_next xs t r.1 (le_of_suc-le-suc l))
-
-each_take : (P : ℕ → Type 0) (ds : List ℕ) (t : ℕ) → Each P ds → Each P (take t ds)
-each_take P [] zero h = tt
-each_take P [] (suc t) h = tt
-each_take P (x ∷ xs) zero h = tt
-each_take P (x ∷ xs) (suc t) h = (h.0, each_take P xs t h.1)
-
-rising_take : (ds : List ℕ) (t : ℕ) → Rising ds → Rising (take t ds)
-rising_take [] zero r = tt
-rising_take [] (suc t) r = tt
-rising_take (x ∷ xs) zero r = tt
-rising_take (x ∷ xs) (suc t) r = (each_take (λ y. x < y) xs t r.0, rising_take xs t r.1)
-
-planned_take : {slots width : ℕ} {ds : List ℕ} → Planned slots width ds → (t : ℕ) → Planned slots width (take t ds)
-planned_take {slots} {ds} p t =
-    record { rises = rising_take ds t p.rises; low = each_take (λ k. k < slots) ds t p.low; positive = p.positive }
 
 each_last : (P : ℕ → Type 0) (xs : List ℕ) (x : ℕ) → Each P (xs ++ (x ∷ [])) → P x
 each_last P [] x h = h.0
@@ -338,7 +320,7 @@ module _ {ds : List ℕ} {width giant_count edge t : ℕ} (s : Edging ds width g
           some = omega arith;
         } in
         record {
-          count = rw (take_more ds t l) (omega (arith, s.count, ap length (giants_run (planned_take d.planned t) (omega (arith, giant_le width x)) j), length-append (giants 65536 width (take t ds)) (g ∷ [])));
+          count = rw (take_more ds t l) (omega (arith, s.count, ap length (giants_run (planned_take t d.planned) (omega (arith, giant_le width x)) j), length-append (giants 65536 width (take t ds)) (g ∷ [])));
           low = new_low;
           has = new_has;
         }

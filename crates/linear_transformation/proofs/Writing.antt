@@ -67,29 +67,27 @@ pub words_length : (slots step b : ℕ) (heap : List Bool) (i : ℕ) → length 
 unfolding heap_levels
 words_length slots step b heap i = length_join (λ l. l.rotation.0 ∷ length l.pairs ∷ []) 2 (λ l. refl) (tabulate i (heap_level slots step b heap)) ∙ ap (λ (n : ℕ). n * 2) (length_tabulate i (heap_level slots step b heap))
 
-pub record Levelling (slots step b : ℕ) (heap : List Bool) (old new : List ℕ) (at i : ℕ) : Type 0 where
+pub record Levelling (slots step b : ℕ) (heap : List Bool) (old new : List ℕ) (i : ℕ) : Type 0 where
   pub room : i ≤ b
   pub so_far : new ≡ in_front (level_words (heap_levels slots step b heap i)) old
   pub len : length new ≡ length old
-  pub at_is : at ≡ 2 * i
 
-pub levelling_none : (slots step b : ℕ) (heap : List Bool) (old : List ℕ) → Levelling slots step b heap old old 0 0
+pub levelling_none : (slots step b : ℕ) (heap : List Bool) (old : List ℕ) → Levelling slots step b heap old old 0
 unfolding heap_levels in_front
-levelling_none slots step b heap old = record { room = omega arith; so_far = refl; len = refl; at_is = refl }
+levelling_none slots step b heap old = record { room = omega arith; so_far = refl; len = refl }
 
-module _ {slots step b : ℕ} {heap : List Bool} {old new : List ℕ} {at i : ℕ} (s : Levelling slots step b heap old new at i) where
+module _ {slots step b : ℕ} {heap : List Bool} {old new : List ℕ} {i : ℕ} (s : Levelling slots step b heap old new i) where
   pub levelling_more : {rot : Rot} {n : ℕ} → i < b → 2 * b ≤ length old → rot ≡ level_rotation slots step b i → n ≡ length (level_pairs heap b i)
-      → Levelling slots step b heap old (set (set new at rot.0) (at + 1) n) (at + 2) (i + 1)
+      → Levelling slots step b heap old (set (set new (2 * i) rot.0) (2 * i + 1) n) (i + 1)
   levelling_more {rot} {n} l r e p =
       let ws = level_words (heap_levels slots step b heap i) in
-      let a : length ws ≡ at = omega (arith, words_length slots step b heap i, s.at_is) in
+      let a : length ws ≡ 2 * i = omega (arith, words_length slots step b heap i) in
       record {
         room = omega arith;
         so_far =
-            rw (s.so_far, in_front_more ws old at rot.0 a (omega (arith, s.at_is)), in_front_more (ws ++ (rot.0 ∷ [])) old (at + 1) n (rw length-append (omega arith)) (omega (arith, s.at_is)), append_assoc, e, p)
+            rw (s.so_far, in_front_more ws old (2 * i) rot.0 a (omega arith), in_front_more (ws ++ (rot.0 ∷ [])) old (2 * i + 1) n (rw length-append (omega arith)) (omega arith), append_assoc, e, p)
             (ap (λ (t : List ℕ). in_front t old) (sym (words_more slots step b heap i)));
         len = simp length-set s.len;
-        at_is = omega (arith, s.at_is);
       }
 
 -- ---- keys

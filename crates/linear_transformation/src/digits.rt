@@ -1,13 +1,13 @@
-// Baby multiples and giant digits. A digit and a rotation are two types: only `digit_of` leads from a
-// rotation to its digit, and only `rotation_of` of a tree's levels back.
+// Baby multiples and giant digits. A digit and a rotation are two types: only `digit` of `Steps` leads from a
+// rotation to its digit, and only its `rotation` of a tree's levels back.
 ghost use Rattle.std.specs.Prelude.{◌≡◌};
 ghost use Rattle.ring.specs.Answers.{answered};
 ghost use Rattle.ring.specs.Refusals.{Range};
 ghost use Rattle.linear_transformation.specs.Digits.{rot_of, digit};
 ghost use Rattle.linear_transformation.specs.Listed.{no_baby, baby_multiple};
 ghost use Rattle.linear_transformation.specs.Calls.{baby_refusal, digit_refusal};
-ghost use Rattle.linear_transformation.specs.Steps.Numbers.{Digitable};
 
+use crate::steps::Steps;
 use ring::Refusal;
 
 // A rotation, reduced modulo slots.
@@ -40,21 +40,6 @@ pub fn baby_multiple(baby: i64, baby_step: usize) -> Result<usize, Refusal>
     Ok(baby as usize / baby_step)
 }
 
-// j of the rotation j·step; where the step divides slots, the j of least magnitude, half the period
-// being negative.
-// Kept: no conversion: a quotient, from which a period is taken or not.
-pub(crate) fn digit_of(rot: Rot, step: u32, slots: u32) -> Digit
-    requires { Digitable slots step rot.0 }
-    ensures { result ≡ digit slots step rot }
-{
-    let j = rot.0 / step;
-    let period = slots / step;
-    if slots % step != 0 || 2 * j < period {
-        return Digit(j as i64);
-    }
-    Digit(j as i64 - period as i64)
-}
-
 // The digit of a giant rotation. Refuses with 1 slots and with 3 a step outside 1..=65536, with 10 a
 // rotation whose residue is no multiple of the step.
 pub fn giant_digit(rot: i64, giant_step: usize, slots: usize) -> Result<Digit, Refusal>
@@ -66,11 +51,13 @@ pub fn giant_digit(rot: i64, giant_step: usize, slots: usize) -> Result<Digit, R
     if ring::is_outside(giant_step) {
         return Err(Refusal::OutOfRange);
     }
-    let n = slots as u32;
-    let step = giant_step as u32;
-    let r = ring::residue(rot, n);
-    if r % step != 0 {
+    let steps = Steps {
+        step: giant_step as u32,
+        slots: slots as u32,
+    };
+    let r = ring::residue(rot, steps.slots);
+    if r % steps.step != 0 {
         return Err(Refusal::Giant);
     }
-    Ok(digit_of(Rot(r), step, n))
+    Ok(steps.digit(Rot(r)))
 }

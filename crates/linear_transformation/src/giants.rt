@@ -10,14 +10,14 @@ ghost use Rattle.ring.specs.Answers.{answered};
 ghost use Rattle.linear_transformation.specs.declared.rotations.BsgsRotations.TheVariants.{PowersOfTwo};
 ghost use Rattle.linear_transformation.specs.Listed.{giant_refusals, giant_keys_of, giant_switches_of};
 ghost use Rattle.linear_transformation.specs.Calls.{ListWritten, TreeWritten};
-ghost use Rattle.linear_transformation.specs.Steps.Numbers.{Stepped};
-ghost use Rattle.linear_transformation.specs.Steps.Trees.{OneGiant, DigitIs, LargestIs, BitsAre, LeafAsked, LeafIs, leaves_at, Blank, LeavesMarked, TreeOf, GiantsAccepted};
+ghost use Rattle.linear_transformation.specs.Steps.Trees.{LargestIs, BitsAre, leaves_at, Blank, LeavesMarked, TreeOf, GiantsAccepted};
 
 use crate::babies::count_nonzeros;
-use crate::digits::{Digit, Rot, digit_of};
+use crate::digits::Digit;
 use crate::heap::{climb, power};
 use crate::records::PairRecord;
 use crate::rotations::{BsgsRotations, TreeSizes, check_numbers};
+use crate::steps::Steps;
 use crate::tree::Tree;
 use ring::Refusal;
 
@@ -25,17 +25,8 @@ use ring::Refusal;
 #[derive(Clone, Copy)]
 struct GiantList<'a> {
     giants: &'a [i64],
-    step: u32,
-    slots: u32,
-    ghost stepped: { Stepped slots step },
-    ghost multiples: { some (λ z. not (divides step (residue_of z slots))) giants.now ≡ false },
-}
-
-pub(crate) fn digit_at(giant: i64, step: u32, slots: u32) -> Digit
-    requires { OneGiant slots step giant }
-    ensures { DigitIs slots step giant result }
-{
-    digit_of(Rot(ring::residue(giant, slots)), step, slots)
+    steps: Steps,
+    ghost multiples: { some (λ z. not (divides steps.step (residue_of z steps.slots))) giants.now ≡ false },
 }
 
 // n both for n and for -(n + 1): the digit is in the range of b exactly if that is below 2^(b-1).
@@ -55,25 +46,6 @@ pub(crate) fn bits_for(x: u32) -> u32
     33 - x.leading_zeros()
 }
 
-// The leaf of a giant: its digit mod 2^bits.
-pub(crate) fn leaf_at(giant: i64, step: u32, slots: u32, bits: u32) -> u32
-    requires { LeafAsked slots step bits giant }
-    ensures { LeafIs slots step bits giant result }
-{
-    ring::residue(digit_at(giant, step, slots).0, power(bits))
-}
-
-// Whether every giant is a multiple of the step, modulo slots.
-// Kept: a test, no switch, and no number for a kind.
-fn are_multiples(step: u32, slots: u32, giants: &[i64]) -> bool
-    requires { Stepped slots step }
-    ensures { result ≡ not (some (λ z. not (divides step (residue_of z slots))) giants.now) }
-{
-    giants
-        .iter()
-        .all(|&giant| ring::residue(giant, slots) % step == 0)
-}
-
 impl<'a> GiantList<'a> {
     // Refuses steps outside 1..=65536 and giants that are no multiples of the giant step.
     fn accept(
@@ -83,72 +55,70 @@ impl<'a> GiantList<'a> {
         giants: &'a [i64],
     ) -> Result<GiantList<'a>, Refusal>
         ensures { MatchResult result
-            (λ list. GiantsAccepted baby_step giant_step slots giants.now list.step list.slots list.giants.now)
+            (λ list. GiantsAccepted baby_step giant_step slots giants.now list.steps.step list.steps.slots list.giants.now)
             (λ e. first_refusal (giant_refusals (PowersOfTwo baby_step giant_step slots) giants.now) ≡ Some e) }
     {
         check_numbers(baby_step, giant_step, slots)?;
-        let step = giant_step as u32;
-        let slots = slots as u32;
-        if !are_multiples(step, slots, giants) {
+        let steps = Steps {
+            step: giant_step as u32,
+            slots: slots as u32,
+        };
+        if !steps.divide(giants) {
             return Err(Refusal::Giant);
         }
-        Ok(GiantList {
-            giants,
-            step,
-            slots,
-        })
+        Ok(GiantList { giants, steps })
     }
 
     // The largest magnitude of the giants' digits.
+    // Kept: `Sorted::largest_turn` is its twin over runs of diagonals; Rattle has no `impl Iterator` as a result to give both as one.
     fn largest_digit(&self) -> u32
-        ensures { LargestIs self.now.slots self.now.step self.now.giants.now result }
+        ensures { LargestIs self.now.steps.slots self.now.steps.step self.now.giants.now result }
     {
         let mut x = 0;
         for &giant in self.giants {
-            x = x.max(magnitude(digit_at(giant, self.step, self.slots)));
+            x = x.max(magnitude(self.steps.digit_at(giant)));
         }
         x
     }
 
-    // Kept: there is no heap memory, so the nodes stand in a table of fixed size, and the tree's b bounds those that are looked at.
-    fn mark_leaves(&self, bits: u32, heap: &mut [bool; 131072])
+    // Marks the leaves of the giants.
+    // Kept: `Sorted::mark_turns` is its twin over runs of diagonals; Rattle has no `impl Iterator` as a result to give both as one.
+    // The table has its full size, since there is no heap memory, and b bounds the nodes that are looked at.
+    fn mark_leaves(&self, bits: u32, nodes: &mut [bool; 131072])
         requires bits_bound { bits ≤ 16 }
-        requires blank { Blank heap.old }
-        ensures { LeavesMarked bits (leaves_at self.now.slots self.now.step bits self.now.giants.now) heap.new }
+        requires blank { Blank nodes.old }
+        ensures { LeavesMarked bits (leaves_at self.now.steps.slots self.now.steps.step bits self.now.giants.now) nodes.new }
     {
         let size = power(bits) as usize;
         for &giant in self.giants {
-            let l = leaf_at(giant, self.step, self.slots, bits) as usize;
-            heap[size + l] = true;
+            let l = self.steps.leaf_at(giant, bits) as usize;
+            nodes[size + l] = true;
         }
     }
 
-    // One word a giant, in the list's order.
-    // Kept: b goes by alone here and to the two functions that mark leaves, since those make what a tree is made of.
-    fn write_leaves(&self, bits: u32, leaves: &mut [u32])
-        requires bits_bound { bits ≤ 16 }
-        requires giants_in_bounds { length self.now.giants.now ≤ length leaves.old }
-        ensures { leaves.new ≡ in_front (leaves_at self.now.slots self.now.step bits self.now.giants.now) leaves.old }
+    // The leaves of the giants in a tree, one word a giant, in the list's order.
+    fn write_leaves(&self, tree: &Tree<'_>, leaves: &mut [u32])
+        requires { length self.now.giants.now ≤ length leaves.old }
+        ensures { leaves.new ≡ in_front (leaves_at self.now.steps.slots self.now.steps.step tree.now.bits self.now.giants.now) leaves.old }
     {
         for (t, &giant) in self.giants.iter().enumerate() {
-            leaves[t] = leaf_at(giant, self.step, self.slots, bits);
+            leaves[t] = self.steps.leaf_at(giant, tree.bits);
         }
     }
 
-    // The tree over the giants; its nodes are marked in the heap.
+    // The tree over the giants; its nodes are marked in the table.
     // Kept: `Sorted::plant` takes its giants from runs of an index; an iterator of giants, walked twice, would be no plainer.
-    fn plant<'h>(&self, heap: &'h mut [bool; 131072]) -> Tree<'h>
-        requires { Blank heap.old }
-        ensures { TreeOf self.now.slots self.now.step self.now.giants.now result }
+    fn plant<'h>(&self, nodes: &'h mut [bool; 131072]) -> Tree<'h>
+        requires { Blank nodes.old }
+        ensures { TreeOf self.now.steps.slots self.now.steps.step self.now.giants.now result }
     {
         let bits = bits_for(self.largest_digit());
-        self.mark_leaves(bits, heap);
-        climb(power(bits) as usize, heap);
+        self.mark_leaves(bits, nodes);
+        climb(power(bits) as usize, nodes);
         Tree {
             bits,
-            step: self.step,
-            slots: self.slots,
-            heap,
+            steps: self.steps,
+            nodes,
         }
     }
 }
@@ -156,7 +126,7 @@ impl<'a> GiantList<'a> {
 // The tree over the giants: b, the number of pairs, and in front of the buffers one word a giant (its
 // leaf), two a level (its rotation and its number of pairs), and one record a pair. Per rotation there
 // is no tree. Refuses with 1 slots and with 3 a step outside 1..=65536, with 10 a giant that is no
-// multiple of the step, with 12 too small a buffer. The heap is cleared only where there is a tree.
+// multiple of the step, with 12 too small a buffer. The table of nodes is cleared only where there is a tree.
 // Kept: there is no heap memory, so the nodes stand in a table of fixed size.
 pub fn giant_tree(
     rotations: BsgsRotations,
@@ -176,14 +146,14 @@ pub fn giant_tree(
         return Ok(None);
     };
     let list = GiantList::accept(baby_step, giant_step, slots, giants)?;
-    let mut heap = [false; 131072];
-    let tree = list.plant(&mut heap);
+    let mut nodes = [false; 131072];
+    let tree = list.plant(&mut nodes);
     let bits = tree.bits;
     let pairs = tree.size();
     if leaves.len() < giants.len() || levels.len() < 2 * bits as usize || records.len() < pairs {
         return Err(Refusal::Room);
     }
-    list.write_leaves(bits, leaves);
+    list.write_leaves(&tree, leaves);
     tree.write_levels(levels);
     tree.write_records(records);
     Ok(Some(TreeSizes { bits, pairs }))
@@ -208,8 +178,8 @@ pub fn giant_key_rotations(
         return Ok(0);
     };
     let list = GiantList::accept(baby_step, giant_step, slots, giants)?;
-    let mut heap = [false; 131072];
-    let tree = list.plant(&mut heap);
+    let mut nodes = [false; 131072];
+    let tree = list.plant(&mut nodes);
     let count = tree.keys_count();
     if out.len() < count {
         return Err(Refusal::Room);
@@ -233,6 +203,6 @@ pub fn giant_key_switches(rotations: BsgsRotations, giants: &[i64]) -> Result<us
         return Ok(count_nonzeros(giants));
     };
     let list = GiantList::accept(baby_step, giant_step, slots, giants)?;
-    let mut heap = [false; 131072];
-    Ok(list.plant(&mut heap).size())
+    let mut nodes = [false; 131072];
+    Ok(list.plant(&mut nodes).size())
 }

@@ -1,18 +1,21 @@
-// The nodes of a tree in a heap: node n of level i stands at 2^(b-i) + n, the parent of h at h / 2.
+// The nodes of a tree in a table, as in a binary heap: node n of level i stands at 2^(b-i) + n, the parent of h at h / 2.
 // Only the first 2^(b+1) places are looked at, so a small tree is cheap.
-ghost use Rattle.std.specs.Prelude.{◌≡◌, suc, ◌-◌, ◌+◌, ◌*◌, ◌^◌, ◌≤◌, ◌<◌, pos, ◌*ℤ◌, ◌||◌, length};
+ghost use Rattle.std.specs.Prelude.{◌≡◌, ◌-◌, ◌+◌, ◌*◌, ◌^◌, ◌≤◌, ◌<◌, ◌||◌, length};
 ghost use Rattle.ring.specs.Vectors.{in_front, Behind};
 ghost use Rattle.ring.specs.Answers.{answered};
-ghost use Rattle.linear_transformation.specs.Digits.{rot_of, level_rotation};
+ghost use Rattle.linear_transformation.specs.Digits.{level_rotation};
 ghost use Rattle.linear_transformation.specs.Trees.{level_words};
 ghost use Rattle.linear_transformation.specs.Calls.{level_refusal};
-ghost use Rattle.linear_transformation.specs.Steps.Trees.{Climbing, Climbed, level_pairs, levels_in, switches_in, Turnable, LevelDigit, LevelAsked, keys_of};
+ghost use Rattle.linear_transformation.specs.Steps.Trees.{Climbing, Climbed, level_nodes, level_pairs, levels_in, switches_in, LevelDigit, keys_of};
 
-use crate::digits::{Digit, Rot};
+use crate::digits::Digit;
+use crate::steps::Steps;
 use crate::tree::Tree;
 use ring::Refusal;
 
-// Kept: `1 << n` in its place would need at each place why the shift gives 2^n.
+// 2^n of a number of bits.
+// Kept: `1 << n` at its places was tried: each goal then has `1 * 2 ^ n % 2 ^ 64`, and some did not close, as `fold-requires`
+// in `close` and `loop-giant-preserved` in `mark_leaves`; here one equation takes the remainder away.
 pub(crate) fn power(n: u32) -> u32
     requires { n ≤ 16 }
     ensures { result ≡ 2 ^ n }
@@ -22,42 +25,25 @@ pub(crate) fn power(n: u32) -> u32
 
 // Marks the nodes above the marked leaves, level after level.
 // Kept: there is no heap memory, so the nodes stand in a table of fixed size, and the tree's b bounds those that are looked at.
-pub(crate) fn climb(size: usize, heap: &mut [bool; 131072])
-    requires { Climbing size heap.old }
-    ensures { Climbed size heap.old heap.new }
+pub(crate) fn climb(size: usize, nodes: &mut [bool; 131072])
+    requires { Climbing size nodes.old }
+    ensures { Climbed size nodes.old nodes.new }
 {
     for h in (1..size).rev() {
-        heap[h] = heap[2 * h] || heap[2 * h + 1];
+        nodes[h] = nodes[2 * h] || nodes[2 * h + 1];
     }
 }
 
-// The rotation of a level's digit: the only way from a digit to a rotation.
-// Kept: no conversion: a product, reduced.
-fn rotation_of(digit: Digit, step: u32, slots: u32) -> Rot
-    requires { Turnable slots step digit }
-    ensures { result ≡ rot_of slots (digit.0 *ℤ pos step) }
-{
-    Rot(ring::residue(digit.0 * step as i64, slots))
-}
-
 // What level i adds to a digit: 2^i, the top one -2^i.
-fn level_digit(bits: u32, i: u32) -> Digit
+pub(crate) fn level_digit(bits: u32, i: u32) -> Digit
     requires { (bits ≤ 16) × (i < bits) }
     ensures { LevelDigit bits i result }
 {
     let p = power(i) as i64;
     if i + 1 == bits {
-        return Digit(0 - p);
+        return Digit(-p);
     }
     Digit(p)
-}
-
-// The rotation of level i.
-fn level_rotation(bits: u32, i: u32, step: u32, slots: u32) -> Rot
-    requires { LevelAsked slots step bits i }
-    ensures { result ≡ level_rotation slots step bits i }
-{
-    rotation_of(level_digit(bits, i), step, slots)
 }
 
 // The rotation of a level of a tree with b = `bits`, for any numbers. Refuses with 1 slots and with 3 a
@@ -79,28 +65,35 @@ pub fn tree_rotation(
     if 16 < bits || bits <= level {
         return Err(Refusal::OutOfRange);
     }
-    let rotation = level_rotation(bits, level, giant_step as u32, slots as u32);
-    Ok(rotation.0 as usize)
+    let steps = Steps {
+        step: giant_step as u32,
+        slots: slots as u32,
+    };
+    Ok(steps.level_rotation(bits, level).0 as usize)
 }
 
 impl Tree<'_> {
-    // The number of odd places of a level: as many as there are pairs at most.
+    // The nodes of a level in twos, an even one and the odd one behind it: there is a pair where the odd one is.
     // Kept: `level < bits` is the bound of an index, here and below; a struct of a tree and a level would be no plainer.
-    pub(crate) fn odd_places(&self, level: u32) -> usize
+    pub(crate) fn level_nodes(&self, level: u32) -> &[[bool; 2]]
         requires { level < self.now.bits }
-        ensures { result ≡ 2 ^ (self.now.bits - suc level) }
+        ensures { result.now ≡ level_nodes self.now.nodes.now self.now.bits level }
     {
-        power(self.bits - 1 - level) as usize
+        let m = power(self.bits - 1 - level) as usize;
+        let nodes = self.nodes;
+        nodes[2 * m..4 * m].as_chunks::<2>().0
     }
 
     // The number of pairs of a level.
-    // Kept: as `odd_places`.
+    // Kept: as `level_nodes`.
     fn level_size(&self, level: u32) -> usize
         requires { level < self.now.bits }
-        ensures { result ≡ length (level_pairs self.now.heap.now self.now.bits level) }
+        ensures { result ≡ length (level_pairs self.now.nodes.now self.now.bits level) }
     {
-        let m = self.odd_places(level);
-        (0..m).filter(|&k| self.heap[2 * (m + k) + 1]).count()
+        self.level_nodes(level)
+            .iter()
+            .filter(|&&[_, odd]| odd)
+            .count()
     }
 
     // The number of pairs of all levels.
@@ -111,16 +104,15 @@ impl Tree<'_> {
     }
 
     // Two words a level: its rotation and its number of pairs.
-    // Kept: the levels are no list; each is made from its number.
+    // Kept: the levels are no list: each is made from its number i, which also tells where its words stand.
     pub(crate) fn write_levels(&self, levels: &mut [u32])
         requires { 2 * self.now.bits ≤ length levels.old }
         ensures { levels.new ≡ in_front (level_words (levels_in self.now)) levels.old }
     {
-        let mut at = 0;
         for i in 0..self.bits {
-            levels[at] = level_rotation(self.bits, i, self.step, self.slots).0;
+            let at = 2 * i as usize;
+            levels[at] = self.steps.level_rotation(self.bits, i).0;
             levels[at + 1] = self.level_size(i) as u32;
-            at += 2;
         }
     }
 
@@ -140,7 +132,7 @@ impl Tree<'_> {
         let mut to = at;
         for i in 0..self.bits {
             if self.level_size(i) != 0 {
-                out[to] = level_rotation(self.bits, i, self.step, self.slots).0;
+                out[to] = self.steps.level_rotation(self.bits, i).0;
                 to += 1;
             }
         }

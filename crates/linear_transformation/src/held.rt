@@ -21,7 +21,8 @@ pub(crate) struct Held<'a> {
 
 impl<'a> Held<'a> {
     // They may be any numbers: from 65536 on none is a key.
-    // Kept: the blank table is the caller's, since there is no heap to make it on.
+    // Kept: the blank table is the caller's: with no heap memory one made here would end with the call, and no struct can hold
+    // a fact of what stands behind a `&mut`.
     pub(crate) fn of(held: &[u64], seen: &'a mut [bool; 65536]) -> Held<'a>
         requires { Unmarked seen.old }
         ensures { HeldMarked held.now result.seen.now }
@@ -52,6 +53,7 @@ impl<'a> Held<'a> {
     }
 
     // Whether a key is not marked, where each rotation has its own.
+    // Kept: `turns_each` is asked of a `Sorted`, which serves both kinds of strategy: a type for each kind would double what both share.
     pub(crate) fn lacks_turn(&self, sorted: &Sorted<'_>) -> bool
         requires { turns_each sorted.now.strategy ≡ true }
         ensures { Lacking (plan_keys sorted.now.slots sorted.now.strategy sorted.now.ds.now) self.now.seen.now result }
@@ -70,7 +72,8 @@ impl<'a> Held<'a> {
 
     // Whether a key with powers of two is not marked. There are at most 16 passes and 16 levels, so they
     // are never refused for want of room.
-    // Kept: there is no heap, so the keys stand in an array on the stack, as long as they can be.
+    // Kept: there is no heap memory, so the keys stand in an array on the stack, as long as they can be.
+    // Kept: `turns_each` is asked of a `Sorted`, which serves both kinds of strategy: a type for each kind would double what both share.
     pub(crate) fn lacks_power(&self, sorted: &Sorted<'_>, tree: &Tree<'_>) -> bool
         requires powers { turns_each sorted.now.strategy ≡ false }
         requires planted { TreeOf sorted.now.slots (width_of sorted.now.strategy) (giants_of (width_of sorted.now.strategy) sorted.now.ds.now) tree.now }

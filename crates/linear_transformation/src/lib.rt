@@ -16,6 +16,7 @@ mod records;
 mod rotations;
 mod sorted;
 mod sorting;
+mod steps;
 mod stored;
 mod tree;
 mod widths;

@@ -10,7 +10,8 @@ use crate::sorted::Sorted;
 
 impl Sorted<'_> {
     // The babies, where each rotation has its own key.
-    // Kept: the blank table is the caller's, since there is no heap to make it on.
+    // Kept: the blank table is the caller's: with no heap memory one made here would end with the call, and no struct can hold
+    // a fact of what stands behind a `&mut`.
     pub(crate) fn mark_own<'t>(&self, seen: &'t mut [bool; 65536]) -> Multiples<'t>
         requires { Unmarked seen.old }
         ensures { BabyTable (babies self.now.slots (width_of self.now.strategy) self.now.ds.now) result.seen.now result.end result.step }
@@ -21,7 +22,8 @@ impl Sorted<'_> {
     }
 
     // Their closure, as multiples of the baby step.
-    // Kept: the blank table is the caller's, since there is no heap to make it on.
+    // Kept: the blank table is the caller's: with no heap memory one made here would end with the call, and no struct can hold
+    // a fact of what stands behind a `&mut`.
     pub(crate) fn mark_closure<'t>(&self, seen: &'t mut [bool; 65536]) -> Multiples<'t>
         requires { Unmarked seen.old }
         ensures { ClosureTable self.now.slots (width_of self.now.strategy) self.now.ds.now result.seen.now result.end result.step }
@@ -35,7 +37,8 @@ impl Sorted<'_> {
     }
 
     // The plan's babies.
-    // Kept: as `keys` in keys.rt.
+    // Kept: one call for each of the two kinds of strategy; a function that took the calls as closures would lend `seen` to both.
+    // The blank table is the caller's: with no heap memory one made here would end with the call.
     pub(crate) fn mark<'t>(&self, seen: &'t mut [bool; 65536]) -> Multiples<'t>
         requires { Unmarked seen.old }
         ensures { BabyTable (plan_babies self.now.slots self.now.strategy self.now.ds.now) result.seen.now result.end result.step }

@@ -1,7 +1,7 @@
 // Pair records: the pairs of a tree, level after level, as a lent slice.
 ghost use Rattle.std.specs.Prelude.{◌≡◌, ◌+◌, ◌<◌, ◌≤◌, length};
 ghost use Rattle.ring.specs.Vectors.{in_front};
-ghost use Rattle.linear_transformation.specs.Steps.Trees.{pair_at, level_pairs};
+ghost use Rattle.linear_transformation.specs.Steps.Trees.{level_pairs};
 ghost use Rattle.linear_transformation.specs.Steps.Tables.{Writing};
 ghost use Rattle.linear_transformation.specs.Steps.Records.{records_in};
 
@@ -16,29 +16,20 @@ pub struct PairRecord {
 }
 
 impl Tree<'_> {
-    // The pair of the k-th odd node of the level with 2·m places.
-    fn pair_at(&self, m: usize, k: usize) -> PairRecord
-        requires { (m ≤ 32768) × (k < m) }
-        ensures { result ≡ pair_at self.now.heap.now m k }
-    {
-        PairRecord {
-            odd: (2 * k + 1) as u32,
-            even_there: self.heap[2 * (m + k)],
-        }
-    }
-
     // The pairs of a level, from record `at` on; gives where they end.
-    // Kept: the places are no list; where a record goes depends on those before.
+    // Kept: `level < bits` is the bound of an index; a struct of a tree and a level would be no plainer.
     fn write_level(&self, level: u32, records: &mut [PairRecord], at: usize) -> usize
         requires level_inside { level < self.now.bits }
-        requires room { at + length (level_pairs self.now.heap.now self.now.bits level) ≤ length records.old }
-        ensures { Writing at (level_pairs self.now.heap.now self.now.bits level) records.old records.new result }
+        requires room { at + length (level_pairs self.now.nodes.now self.now.bits level) ≤ length records.old }
+        ensures { Writing at (level_pairs self.now.nodes.now self.now.bits level) records.old records.new result }
     {
-        let m = self.odd_places(level);
         let mut to = at;
-        for k in 0..m {
-            if self.heap[2 * (m + k) + 1] {
-                records[to] = self.pair_at(m, k);
+        for (k, &[even, odd]) in self.level_nodes(level).iter().enumerate() {
+            if odd {
+                records[to] = PairRecord {
+                    odd: (2 * k + 1) as u32,
+                    even_there: even,
+                };
                 to += 1;
             }
         }

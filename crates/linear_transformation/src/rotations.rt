@@ -1,4 +1,6 @@
 // How a run reaches its rotations, and what the calls about lists of babies and giants count.
+ghost use Rattle.std.specs.Prelude.{◌≡◌};
+ghost use Rattle.linear_transformation.specs.Listed.{baby_step_of};
 ghost use Rattle.linear_transformation.specs.Steps.Numbers.{StepsJudged};
 ghost use Rattle.linear_transformation.specs.declared.rotations.BsgsRotations.TheVariants.{PowersOfTwo};
 
@@ -13,6 +15,18 @@ pub enum BsgsRotations {
         giant_step: usize,
         slots: usize,
     },
+}
+
+impl BsgsRotations {
+    // The step that a listed baby is a multiple of.
+    pub(crate) fn baby_step(self) -> usize
+        ensures { result ≡ baby_step_of self }
+    {
+        match self {
+            BsgsRotations::PerRotation => 1,
+            BsgsRotations::PowersOfTwo { baby_step, .. } => baby_step,
+        }
+    }
 }
 
 // The numbers of passes and moves.
@@ -52,9 +66,9 @@ pub(crate) fn check_steps(rotations: BsgsRotations) -> Result<(), Refusal>
     match rotations {
         BsgsRotations::PerRotation => Ok(()),
         BsgsRotations::PowersOfTwo {
-            baby_step: baby,
-            giant_step: giant,
-            slots: n,
-        } => check_numbers(baby, giant, n),
+            baby_step,
+            giant_step,
+            slots,
+        } => check_numbers(baby_step, giant_step, slots),
     }
 }

@@ -27,7 +27,7 @@ pub struct Needs {
 
 impl<'a> Sorted<'a> {
     // The offsets of a stored map. Refuses slots and widths outside 1..=65536, and offsets that are no map's.
-    // Kept: as `sort` in plan.rt.
+    // Kept: a struct of offsets, slots and strategy would be made at each call only to be taken apart here.
     fn accept(
         offsets: &'a [u32],
         slots: usize,
@@ -54,7 +54,8 @@ impl<'a> Sorted<'a> {
     }
 
     // What a run needs where each rotation has its own key. Rotation 0 is always one of the babies and asks for no switch.
-    // Kept: there is no heap, so the table of marks is an array on the stack, one mark for each number that can be set.
+    // Kept: there is no heap memory, so the table of marks is an array on the stack, one mark for each number that can be set.
+    // Kept: `turns_each` is asked of a `Sorted`, which serves both kinds of strategy: a type for each kind would double what both share.
     fn turn_needs(&self, held: &[u64]) -> Result<Needs, Refusal>
         requires { turns_each self.now.strategy ≡ true }
         ensures { result ≡ plan_needs (keys_refusal self.now.slots self.now.strategy self.now.ds.now held.now) self.now.slots self.now.strategy self.now.ds.now }
@@ -75,14 +76,15 @@ impl<'a> Sorted<'a> {
     }
 
     // The same with powers of two. The tree is planted once, for the keys and for the pairs.
-    // Kept: there is no heap, so the table of marks is an array on the stack, one mark for each number that can be set.
+    // Kept: there is no heap memory, so the table of marks is an array on the stack, one mark for each number that can be set.
+    // Kept: `turns_each` is asked of a `Sorted`, which serves both kinds of strategy: a type for each kind would double what both share.
     fn power_needs(&self, held: &[u64]) -> Result<Needs, Refusal>
         requires { turns_each self.now.strategy ≡ false }
         ensures { result ≡ plan_needs (keys_refusal self.now.slots self.now.strategy self.now.ds.now held.now) self.now.slots self.now.strategy self.now.ds.now }
     {
         let mut seen = [false; 65536];
-        let mut heap = [false; 131072];
-        let tree = self.plant(&mut heap);
+        let mut nodes = [false; 131072];
+        let tree = self.plant(&mut nodes);
         if Held::of(held, &mut seen).lacks_power(self, &tree) {
             return Err(Refusal::Key);
         }
@@ -103,21 +105,19 @@ impl<'a> Sorted<'a> {
 fn are_rising(offsets: &[u32], slots: usize) -> bool
     ensures { result ≡ offsets_rise slots offsets.now }
 {
-    let mut next = 0;
-    for &offset in offsets {
-        let k = offset as usize;
-        if k < next || slots <= k {
-            return false;
-        }
-        next = k + 1;
+    if !offsets.is_sorted_by(|a, b| a < b) {
+        return false;
     }
-    true
+    match offsets.last() {
+        Some(&k) => (k as usize) < slots,
+        None => true,
+    }
 }
 
 // Writes the plan of a stored map's offsets in front of `plan`, as `linear_transform_index` does.
 // Refuses with 1 slots and with 3 a width outside 1..=65536, with 2 offsets that do not rise below
 // slots, with 12 a plan that is too short.
-// Kept: C lends offsets, slots and a strategy one by one.
+// Kept: what a public function takes stays as it is: offsets, slots and a strategy that nothing has tested yet.
 pub fn stored_plan(
     offsets: &[u32],
     slots: usize,
@@ -140,7 +140,7 @@ fn part(words: &[u32], from: usize, count: usize) -> &[u32]
 // The pair records of the tree over the giants of a plan, `count` words from `from` on, one a pair, in
 // front of the slice; b and the number of pairs. Per rotation there is no tree. Refuses as
 // `stored_plan`, with 12 too few records.
-// Kept: there is no heap, so the nodes of the tree are marks in an array on the stack.
+// Kept: there is no heap memory, so the nodes of the tree are marks in an array on the stack.
 pub fn plan_records(
     strategy: LinearTransformationStrategy,
     slots: usize,
@@ -155,8 +155,8 @@ pub fn plan_records(
         return Ok(None);
     }
     let giants = Sorted::accept(part(plan, from, count), slots, strategy)?;
-    let mut heap = [false; 131072];
-    let tree = giants.plant(&mut heap);
+    let mut nodes = [false; 131072];
+    let tree = giants.plant(&mut nodes);
     let pairs = tree.size();
     if records.len() < pairs {
         return Err(Refusal::Room);
@@ -170,7 +170,7 @@ pub fn plan_records(
 
 // What a run by a plan of stored offsets needs: babies, giants, pairs, switches, the baby step and b.
 // Refuses with 1, 2 and 3 as `stored_plan`, with 11 where a key of the plan is not held.
-// Kept: as `stored_plan`.
+// Kept: what a public function takes stays as it is: offsets, slots and a strategy that nothing has tested yet.
 pub fn plan_needs(
     offsets: &[u32],
     slots: usize,

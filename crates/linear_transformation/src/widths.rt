@@ -13,6 +13,8 @@ ghost use Rattle.linear_transformation.specs.Plans.{Distinct};
 use crate::sorting::sort_into;
 use ring::Refusal;
 
+// Kept: `windows`, `map` and `min` in one chain was tried: the goal `min-requires-clause-can`, that each pair which it takes rises,
+// stayed open.
 fn smallest_gap(ds: &[u32]) -> u32
     requires distinct { Distinct 65536 ds.now }
     requires in_bounds { 2 ≤ length ds.now }
@@ -50,7 +52,7 @@ fn weigh(ds: &[u32], width: u32, stamps: &mut [u32; 65536]) -> u32
 }
 
 // The last of the multiples of the gap, below slots, whose cost is least.
-// Kept: there is no heap, so the stamps are an array on the stack, one for each number that can be a baby.
+// Kept: there is no heap memory, so the stamps are an array on the stack, one for each number that can be a baby.
 fn cheapest_multiple(ds: &[u32], slots: u32, gap: u32) -> u32
     requires { Choice slots ds.now gap }
     ensures { result ≡ best_width slots ds.now }
@@ -83,7 +85,7 @@ fn best_width(ds: &[u32], slots: u32) -> u32
 // Among the multiples of the smallest gap between the diagonals, below slots, the width with the
 // fewest babies or giants, whichever are more; the largest of these. Refuses with 1 slots outside
 // 1..=65536.
-// Kept: there is no heap, so the sorted diagonals stand in an array on the stack, as long as they can be.
+// Kept: there is no heap memory, so the sorted diagonals stand in an array on the stack, as long as they can be.
 pub fn optimal_bsgs_giant_step(indexes: &[i64], slots: usize) -> Result<usize, Refusal>
     ensures { result ≡ answered (normalize_refusal slots) (best_width slots (diagonals_of slots indexes.now)) }
 {

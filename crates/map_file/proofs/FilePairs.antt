@@ -1,15 +1,14 @@
 -- The walks over the pairs of a file: what they keep, a turn, and each way out.
 -- Assumes nothing.
-use Prim.Native.Nat.{ℕ, zero, suc, ◌+◌, ◌*◌, ◌≤◌, ◌<◌}
-use mathlib.Core.Path.{◌≡◌, refl, sym, ap, ◌∙◌}
+use Prim.Native.Nat.{ℕ, ◌+◌, ◌*◌, ◌≤◌, ◌<◌}
+use mathlib.Core.Path.{◌≡◌, sym, ap, ◌∙◌}
 use Rattle.std.specs.Prelude.{Ok, Err}
 use mathlib.Core.Bool.{false}
 use mathlib.Core.List.{List, []}
 use native.Mathlib.Omega.{arith}
 use borrow.Author.Tests.{le-leb}
-use lib.ListN.{length, take, drop}
-use Rattle.std.proofs.Common.{slice_index_or, get_or-drop}
-use Rattle.std.proofs.lemmas.List.{get_or-take}
+use lib.ListN.{length}
+use Rattle.std.proofs.Common.{slice_index_or}
 use Rattle.ring.specs.declared.refusal.Refusal.TheVariants.{File}
 use Rattle.ring.specs.Searches.{every}
 use Rattle.ring.specs.Vectors.{tabulate, in_front}
@@ -19,18 +18,11 @@ use Rattle.diagonals.specs.Laws.Checking.{Checking, checking_done}
 use Rattle.diagonals.specs.Laws.Pairs.{length_pair_words, put_more}
 use Rattle.diagonals.specs.Laws.Words.{pair_words_none, pair_words_more, start_alone}
 use Rattle.map_file.specs.Files.{number_at, count_in, offset_in, length_in, diagonal_in, map_in}
+use Rattle.map_file.specs.Laws.Numbers.{number_part}
 use Rattle.map_file.specs.Laws.Telling.{length_told, offset_told, length_told_at}
 use Rattle.map_file.specs.Steps.{pair_in, pairs_answer, Headed}
 
 -- ---- the numbers of a pair
-
--- a number of up to eight bytes, from the bytes of its pair
-number_part : (bytes : List ℕ) (s k at : ℕ) → at + k ≤ 8 → number_at k (take 8 (drop s bytes)) at ≡ number_at k bytes (s + at)
-unfolding number_at
-number_part bytes s zero at h = refl
-number_part bytes s (suc k) at h =
-    let e : suc (s + at) ≡ s + suc at = omega arith in
-    rw (get_or-take 8 (drop s bytes) at 0 (omega arith), get_or-drop, number_part bytes s k (suc at) (omega arith), e) refl
 
 -- as a walk over the pairs reads them
 module _ (bytes : List ℕ) (n : ℕ) {items : List (List ℕ)} (e : items ≡ tabulate n (pair_in bytes)) where
@@ -42,7 +34,7 @@ module _ (bytes : List ℕ) (n : ℕ) {items : List (List ℕ)} (e : items ≡ t
     item_low = omega (arith, items_length)
 
     read_at : {x : ℕ} (at : ℕ) → at + 4 ≤ 8 → x ≡ number_at 4 (slice_index_or items i []) at → x ≡ number_at 4 bytes (8 + 8 * i + at)
-    read_at at f h = h ∙ ap (λ (p : List ℕ). number_at 4 p at) (rw e (get_or_tabulate n (pair_in bytes) i [] item_low)) ∙ number_part bytes (8 + 8 * i) 4 at f
+    read_at at f h = h ∙ ap (λ (p : List ℕ). number_at 4 p at) (rw e (get_or_tabulate n (pair_in bytes) i [] item_low)) ∙ number_part bytes 8 (8 + 8 * i) 4 at f
 
     pub offset_read : {x : ℕ} → x ≡ number_at 4 (slice_index_or items i []) 0 → x ≡ offset_in bytes i
     unfolding offset_in

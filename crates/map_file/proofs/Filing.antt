@@ -7,10 +7,13 @@ use native.Mathlib.Nat.{mul_comm}
 use native.Mathlib.Omega.{arith}
 use lib.ListN.{length, get_or, take, length-append}
 use lib.Seq.{length-take-le, take_all}
+use Rattle.std.specs.Int.{Width, byte_len, to_le_bytes}
 use Rattle.ring.specs.Lists.{join}
 use Rattle.ring.specs.Vectors.{put_at}
 use Rattle.ring.specs.Laws.Lists.{join_more, length_join}
 use Rattle.ring.specs.Laws.Places.{length_put_at, put_none, put_both}
+use Rattle.map_file.specs.Files.{bytes_of}
+use Rattle.map_file.specs.Laws.Numbers.{le_bytes}
 
 -- the bytes of the first j elements stand from place `from` on
 pub record Filing {A : Type 0} (f : A → List ℕ) (from : ℕ) (xs : List A) (old new : List ℕ) (j : ℕ) : Type 0 where
@@ -45,3 +48,7 @@ module _ {A : Type 0} {f : A → List ℕ} {from : ℕ} {xs : List A} {old new :
 
   pub filing_done : length xs ≤ j → new ≡ put_at from (join f xs) old
   filing_done l = s.so_far ∙ ap (λ (t : List A). put_at from (join f t) old) (take_all j xs l)
+
+-- a number's bytes as the library gives them
+pub put_le : (w : Width) (at x : ℕ) (bytes old new : List ℕ) → bytes ≡ to_le_bytes w x → new ≡ put_at at bytes old → new ≡ put_at at (bytes_of (byte_len w) x) old
+put_le w at x bytes old new e h = h ∙ ap (λ (t : List ℕ). put_at at t old) (e ∙ le_bytes w x)

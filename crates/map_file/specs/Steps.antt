@@ -1,14 +1,12 @@
 -- What the private steps of this crate ask and ensure. A reader need not believe these.
 -- Assumes nothing.
-use Rattle.std.specs.Prelude.{ℕ, ◌+◌, ◌*◌, ◌≤◌, ◌≡◌, not, List, [], ◌∷◌, length, take, drop, Result, Ok}
+use Rattle.std.specs.Prelude.{ℕ, ◌+◌, ◌*◌, ◌≤◌, ◌≡◌, not, List, [], ◌∷◌, length, take, drop, Result}
 use Rattle.ring.specs.declared.refusal.Refusal.{Refusal}
 use Rattle.ring.specs.declared.refusal.Refusal.TheVariants.{File}
 use Rattle.ring.specs.Refusals.{first_refusal, Range}
 use Rattle.ring.specs.Answers.{answered}
 use Rattle.diagonals.specs.Maps.{well_formed, pair_words, value_words}
-use Rattle.map_file.specs.declared.reading.Held.{Held}
-use Rattle.map_file.specs.Files.{slots_in, count_in, map_in}
-use Rattle.map_file.specs.Calls.{file_refusal}
+use Rattle.map_file.specs.Files.{count_in, map_in}
 
 -- the bytes of the i-th pair
 abbrev pub pair_in : List ℕ → ℕ → List ℕ
@@ -25,13 +23,3 @@ abbrev pub pairs_answer : List ℕ → ℕ → Result ℕ Refusal
 pairs_answer bytes slots =
     let ds = map_in bytes in
     answered (first_refusal ((not (well_formed slots (length ds) (pair_words ds) (value_words ds)), File) ∷ [])) (length (value_words ds))
-
--- what an accepted file holds
-abbrev pub held_in : List ℕ → Held
-held_in bytes = record { slots = slots_in bytes; count = length (map_in bytes); total = length (value_words (map_in bytes)) }
-
--- the test of a file, with what an accepted one tells
-pub record FileJudged (bytes : List ℕ) (r : Result Held Refusal) : Type 0 where
-  pub answer : r ≡ answered (file_refusal bytes) (held_in bytes)
-  pub few : (file : Held) → r ≡ Ok file → file.count ≤ 65536
-  pub size_is : (file : Held) → r ≡ Ok file → length bytes ≡ 8 + 8 * file.count + 8 * file.total

@@ -1,5 +1,5 @@
 // A map as the bytes of a file (document 02, A1): slots and count, four bytes each, then the pairs, four
-// bytes a number, then the values, eight bytes each, all least byte first. Numbers of refusals are those of
+// bytes a number, then the values, eight bytes each, all least byte first. Refusals are those of
 // documents 01 and 02.
 #![tactic(auto)]
 

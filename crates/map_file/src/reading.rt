@@ -1,10 +1,10 @@
 // The map of a file.
-ghost use Rattle.std.specs.Prelude.{◌≡◌, ◌+◌, ◌*◌, ◌≤◌, length};
+ghost use Rattle.std.specs.Prelude.{◌≡◌, ◌+◌, ◌*◌, ◌≤◌, true, length, Some, MatchResult};
 ghost use Rattle.ring.specs.Vectors.{tabulate, in_front};
-ghost use Rattle.diagonals.specs.Maps.{pair_room, pair_words};
-ghost use Rattle.map_file.specs.Files.{number_at, map_in};
-ghost use Rattle.map_file.specs.Calls.{room_answer, FileRead};
-ghost use Rattle.map_file.specs.Steps.{pair_in, pairs_answer, Headed, FileJudged};
+ghost use Rattle.diagonals.specs.Maps.{pair_room, pair_words, value_words};
+ghost use Rattle.map_file.specs.Files.{slots_in, map_in, is_file};
+ghost use Rattle.map_file.specs.Calls.{file_refusal, room_in, room_answer, FileRead};
+ghost use Rattle.map_file.specs.Steps.{pair_in, pairs_answer, Headed};
 
 use crate::numbers::{u32_at, u64_at};
 use ring::Refusal;
@@ -50,66 +50,80 @@ fn total_in(bytes: &[u8], slots: u32, count: usize) -> Result<usize, Refusal>
     Ok(total)
 }
 
-// What a file holds.
+// An accepted file, and what it tells of its map.
 #[derive(Clone, Copy)]
-struct Held {
+struct File<'a> {
+    bytes: &'a [u8],
     slots: usize,
     count: usize,
     total: usize,
+    ghost accepted: { is_file bytes.now ≡ true },
+    ghost slots_is: { slots ≡ slots_in bytes.now },
+    ghost count_is: { count ≡ length (map_in bytes.now) },
+    ghost total_is: { total ≡ length (value_words (map_in bytes.now)) },
 }
 
-// The test of refusal 13. The length is held to the numbers by division, so that no number is too large.
-fn check_file(bytes: &[u8]) -> Result<Held, Refusal>
-    ensures { FileJudged bytes.now result }
-{
-    if bytes.len() < 8 {
-        return Err(Refusal::File);
+impl<'a> File<'a> {
+    // The test of refusal 13. The length is held to the numbers by division, so that no number is too large.
+    fn accept(bytes: &'a [u8]) -> Result<File<'a>, Refusal>
+        ensures { MatchResult result
+            (λ file. file.bytes.now ≡ bytes.now)
+            (λ e. file_refusal bytes.now ≡ Some e) }
+    {
+        if bytes.len() < 8 {
+            return Err(Refusal::File);
+        }
+        let slots = u32_at(bytes, 0);
+        let count = u32_at(bytes, 4) as usize;
+        if ring::is_outside(slots as usize) || bytes.len() / 8 - 1 < count {
+            return Err(Refusal::File);
+        }
+        let total = total_in(bytes, slots, count)?;
+        if bytes.len() != 8 + 8 * count + 8 * total {
+            return Err(Refusal::File);
+        }
+        Ok(File {
+            bytes,
+            slots: slots as usize,
+            count,
+            total,
+        })
     }
-    let slots = u32_at(bytes, 0);
-    let count = u32_at(bytes, 4) as usize;
-    if ring::is_outside(slots as usize) || bytes.len() / 8 - 1 < count {
-        return Err(Refusal::File);
+
+    fn room(&self) -> FileRoom
+        ensures { result ≡ room_in self.now.bytes.now }
+    {
+        FileRoom {
+            pairs: diagonals::pair_words(self.count as u32),
+            values: self.total,
+        }
     }
-    let total = total_in(bytes, slots, count)?;
-    if bytes.len() != 8 + 8 * count + 8 * total {
-        return Err(Refusal::File);
+
+    fn read_pairs(&self, pairs: &mut [u32])
+        requires { pair_room self.now.count ≤ length pairs.old }
+        ensures { pairs.new ≡ in_front (pair_words (map_in self.now.bytes.now)) pairs.old }
+    {
+        for (i, pair) in first_pairs(self.bytes, self.count).iter().enumerate() {
+            diagonals::put_pair(pairs, i, u32_at(pair, 0), u32_at(pair, 4));
+        }
     }
-    Ok(Held {
-        slots: slots as usize,
-        count,
-        total,
-    })
+
+    fn read_values(&self, values: &mut [u64])
+        requires { length values.old ≡ self.now.total }
+        ensures { values.new ≡ value_words (map_in self.now.bytes.now) }
+    {
+        let from = 8 + 8 * self.count;
+        for (j, value) in values.iter_mut().enumerate() {
+            *value = u64_at(self.bytes, from + 8 * j);
+        }
+    }
 }
 
 // The room that the map of a file needs. Refuses with 13 bytes that are no file.
 pub fn map_file_room(bytes: &[u8]) -> Result<FileRoom, Refusal>
     ensures { result ≡ room_answer bytes.now }
 {
-    let file = check_file(bytes)?;
-    Ok(FileRoom {
-        pairs: diagonals::pair_words(file.count as u32),
-        values: file.total,
-    })
-}
-
-fn read_pairs(bytes: &[u8], count: usize, pairs: &mut [u32])
-    requires count_in_bounds { 8 + 8 * count ≤ length bytes.now }
-    requires count_value { count ≡ length (map_in bytes.now) }
-    requires count_in_bounds_2 { pair_room count ≤ length pairs.old }
-    ensures { pairs.new ≡ in_front (pair_words (map_in bytes.now)) pairs.old }
-{
-    for (i, pair) in first_pairs(bytes, count).iter().enumerate() {
-        diagonals::put_pair(pairs, i, u32_at(pair, 0), u32_at(pair, 4));
-    }
-}
-
-fn read_values(bytes: &[u8], from: usize, values: &mut [u64])
-    requires { from + 8 * length values.old ≤ length bytes.now }
-    ensures { values.new ≡ tabulate (length values.old) (λ j. number_at 8 bytes.now (from + 8 * j)) }
-{
-    for (j, value) in values.iter_mut().enumerate() {
-        *value = u64_at(bytes, from + 8 * j);
-    }
+    Ok(File::accept(bytes)?.room())
 }
 
 // The map of a file, its pairs and values in front of those lent. Refuses with 13 bytes that are no file,
@@ -121,10 +135,10 @@ pub fn read_map_file(
 ) -> Result<FileMap, Refusal>
     ensures { FileRead bytes.now pairs.old pairs.new values.old values.new result }
 {
-    let file = check_file(bytes)?;
+    let file = File::accept(bytes)?;
     diagonals::check_room(file.count, file.total, pairs.len(), values.len())?;
-    read_pairs(bytes, file.count, pairs);
-    read_values(bytes, 8 + 8 * file.count, &mut values[..file.total]);
+    file.read_pairs(pairs);
+    file.read_values(&mut values[..file.total]);
     Ok(FileMap {
         slots: file.slots,
         count: file.count,

@@ -6,7 +6,7 @@ ghost use Rattle.diagonals.specs.Maps.{view};
 ghost use Rattle.map_file.specs.Files.{bytes_of, pair_bytes};
 ghost use Rattle.map_file.specs.Calls.{size_answer, FileWritten};
 
-use crate::numbers::{put_u32, put_u64};
+use crate::numbers::put;
 use diagonals::Map;
 use ring::Refusal;
 
@@ -36,8 +36,8 @@ fn write_pairs(map: &Map, out: &mut [u8])
 {
     for (i, &[offset, len]) in map.entries().iter().enumerate() {
         let at = 8 + 8 * i;
-        put_u32(out, at, offset);
-        put_u32(out, at + 4, len);
+        put(out, at, offset.to_le_bytes());
+        put(out, at + 4, len.to_le_bytes());
     }
 }
 
@@ -46,7 +46,7 @@ fn write_values(values: &[u64], from: usize, out: &mut [u8])
     ensures { out.new ≡ put_at from (join (bytes_of 8) values.now) out.old }
 {
     for (j, &value) in values.iter().enumerate() {
-        put_u64(out, from + 8 * j, value);
+        put(out, from + 8 * j, value.to_le_bytes());
     }
 }
 
@@ -58,8 +58,8 @@ fn write_accepted(map: &Map, out: &mut [u8]) -> Result<usize, Refusal>
     if out.len() < size {
         return Err(Refusal::Room);
     }
-    put_u32(out, 0, map.slots as u32);
-    put_u32(out, 4, map.count as u32);
+    put(out, 0, (map.slots as u32).to_le_bytes());
+    put(out, 4, (map.count as u32).to_le_bytes());
     write_pairs(map, out);
     write_values(&map.values[..map.total], 8 + 8 * map.count, out);
     Ok(size)

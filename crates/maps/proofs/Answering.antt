@@ -7,12 +7,12 @@ use Rattle.ring.specs.declared.refusal.Refusal.{Refusal}
 use Rattle.ring.specs.declared.refusal.Refusal.TheVariants.{Shift, Length}
 use Rattle.ring.specs.Slots.{modulus}
 use Rattle.ring.specs.Refusals.{pick, first_refusal}
-use Rattle.ring.specs.Laws.Refusals.{first_later, none_of_both, not_outside}
+use Rattle.ring.specs.Laws.Refusals.{first_later, none_of_both, not_outside, still_refused}
 use Rattle.ring.specs.Laws.Divisors.{divides_yes}
 use Rattle.ring.specs.Laws.Answers.{no_refused, same_value}
 use Rattle.diagonals.specs.SlotMaps.{slot_map}
 use Rattle.diagonals.specs.Calls.{map_room, MapWritten, period_refusals}
-use Rattle.diagonals.specs.Laws.Calls.{still_refused, written_refused}
+use Rattle.diagonals.specs.Laws.Calls.{written_refused}
 use Rattle.maps.specs.declared.rules.Rule.{Rule}
 use Rattle.maps.specs.declared.rules.Product.{Product}
 use Rattle.maps.specs.declared.reads.Reads.{Reads}

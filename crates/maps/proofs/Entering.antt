@@ -1,15 +1,14 @@
 -- The walks of the maps that read one entry or none: the entry that an output reads, marks and sums of what is read.
 -- Assumes nothing.
-use Rattle.std.proofs.Common.{◌≡◌, ℕ, ◌+◌, ◌-◌, ◌*◌, ◌/◌, ◌%◌, ◌^◌, ◌<◌, ◌≤◌, Bool, true, false, ltb, leb, List, [], ◌∷◌, map, Option, None, Some, Ok, Err, sym, refl, ap, ◌∙◌, subst, append-nil, mul-le-mul_right, mod-lt, mod-eq_of_lt, div-lt_iff_lt-mul, arith, ltb-true, le-ltb, leb-true}
+use Rattle.std.proofs.Common.{◌≡◌, ℕ, ◌+◌, ◌-◌, ◌*◌, ◌/◌, ◌%◌, ◌^◌, ◌<◌, ◌≤◌, Bool, true, false, ltb, leb, List, [], ◌∷◌, map, Option, None, Some, Ok, Err, sym, refl, ap, ◌∙◌, subst, append-nil, mod-lt, mod-eq_of_lt, div-lt_iff_lt-mul, arith, ltb-true, le-ltb, leb-true}
 use Rattle.std.specs.Bool.{then_some}
 use native.Mathlib.Nat.{mod-eq-sub-mod}
 use Rattle.ring.specs.declared.refusal.Refusal.{Refusal}
 use Rattle.ring.specs.declared.refusal.Refusal.TheVariants.{Shift}
 use Rattle.ring.specs.Refusals.{pick, first_refusal}
-use Rattle.ring.specs.Laws.Refusals.{first_later}
+use Rattle.ring.specs.Laws.Refusals.{first_later, still_refused}
 use Rattle.ring.specs.Laws.Answers.{no_refused, same_value}
 use Rattle.diagonals.specs.SlotMaps.{Term}
-use Rattle.diagonals.specs.Laws.Calls.{still_refused}
 use Rattle.maps.specs.declared.rules.Rule.{Rule}
 use Rattle.maps.specs.declared.rules.Rule.TheVariants.{Sigma, Tau, Transpose, RotateRows, RotateCols, RowsUpper, RowsLower, ColsLeft, ColsRight, RowsLeft, RowsRight}
 use Rattle.maps.specs.declared.reads.Reads.{Reads}
@@ -33,9 +32,6 @@ pub fold_high : (x d : ℕ) → d ≤ x → x < 2 * d → x - d ≡ x % d
 fold_high x d h l = let q : x - d < d = omega arith in sym (mod-eq-sub-mod h ∙ mod-eq_of_lt q)
 
 -- ---- entries
-
-pub place_low : {d r c : ℕ} → Within d r c → r * d + c < d * d
-place_low {d} {r} w = omega (arith, w.row_low, w.col_low, mul-le-mul_right {m = r + 1} {n = d} d (omega (arith, w.row_low)))
 
 pub entry_there : (b : Bool) (d r c : ℕ) → then_some b (r * d + c) ≡ place_of d (reading b r c)
 unfolding place_of

@@ -117,9 +117,6 @@ module _ {f : ℕ → ℕ → Option Summand} {width slots period t : ℕ} {plac
   pub row_summed : {new : List ℕ} → SumsOf modulus slots period (rows_upto f width period) (rows_upto f width (t + 1)) values new → Placed modulus slots period f width places (t + 1) old new
   row_summed n = record { range = p.range; placed = p.placed; sums = sums_then p.sums n }
 
-  pub placed_done : t ≡ period → SumsOf modulus slots period (rows_upto f width period) (rows_upto f width period) old values
-  placed_done e = subst (λ (n : ℕ). SumsOf modulus slots period (rows_upto f width period) (rows_upto f width n) old values) e p.sums
-
 -- ---- the map
 
 -- a new table of places

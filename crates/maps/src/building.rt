@@ -26,11 +26,9 @@ pub(crate) trait Summands {
 
     ghost summand: { Self → ℕ → ℕ → Option Summand };
 
-    // Kept: `period` and `width` are two methods of one trait.
     fn period(&self) -> usize
         ensures { result ≡ period self.now };
 
-    // Kept: `period` and `width` are two methods of one trait.
     fn width(&self) -> usize
         ensures { result ≡ width self.now };
 
@@ -97,7 +95,7 @@ fn add<T: Summands>(map: &T, slots: usize, places: &[u32; 65536], values: &mut [
 
 // The map of the summands, stored at the period, in front of pairs and values. Refuses with 12
 // buffers without room.
-// Kept: memory is fixed, so the tables are as long as the most slots.
+// Kept: there is no heap memory, so the tables are as long as the most slots.
 pub(crate) fn build<T: Summands>(
     map: &T,
     slots: usize,

@@ -1,4 +1,4 @@
-// The matrix maps of Jiang, Kim, Lauter and Song (poulpy's maps.rs). Numbers of refusals are those of
+// The matrix maps of Jiang, Kim, Lauter and Song (poulpy's maps.rs). Refusals are those of
 // document 01.
 #![tactic(auto)]
 

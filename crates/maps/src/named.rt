@@ -57,7 +57,7 @@ pub fn rotate_rows(
 ) -> Result<usize, Refusal>
     ensures { RuleWritten slots log_d (RotateRows k) pairs.old pairs.new values.old values.new result }
 {
-    rule_map(Rule::RotateRows { k: k }, slots, log_d, pairs, values)
+    rule_map(Rule::RotateRows { k }, slots, log_d, pairs, values)
 }
 
 // JKLS phi^k: output (r, c) reads (r, c + k mod d), for k up to 65,536.
@@ -71,7 +71,7 @@ pub fn rotate_cols(
 ) -> Result<usize, Refusal>
     ensures { RuleWritten slots log_d (RotateCols k) pairs.old pairs.new values.old values.new result }
 {
-    rule_map(Rule::RotateCols { k: k }, slots, log_d, pairs, values)
+    rule_map(Rule::RotateCols { k }, slots, log_d, pairs, values)
 }
 
 // Upper half of psi^k: output (r, c) reads (r + k, c) where r + k < d, else 0.
@@ -85,7 +85,7 @@ pub fn rows_upper(
 ) -> Result<usize, Refusal>
     ensures { RuleWritten slots log_d (RowsUpper k) pairs.old pairs.new values.old values.new result }
 {
-    rule_map(Rule::RowsUpper { k: k }, slots, log_d, pairs, values)
+    rule_map(Rule::RowsUpper { k }, slots, log_d, pairs, values)
 }
 
 // Lower half of psi^k: output (r, c) reads (r + k - d, c) where r + k >= d, else 0.
@@ -99,7 +99,7 @@ pub fn rows_lower(
 ) -> Result<usize, Refusal>
     ensures { RuleWritten slots log_d (RowsLower k) pairs.old pairs.new values.old values.new result }
 {
-    rule_map(Rule::RowsLower { k: k }, slots, log_d, pairs, values)
+    rule_map(Rule::RowsLower { k }, slots, log_d, pairs, values)
 }
 
 // Left half of phi^k: output (r, c) reads (r, c + k) where c + k < d, else 0.
@@ -113,7 +113,7 @@ pub fn cols_left(
 ) -> Result<usize, Refusal>
     ensures { RuleWritten slots log_d (ColsLeft k) pairs.old pairs.new values.old values.new result }
 {
-    rule_map(Rule::ColsLeft { k: k }, slots, log_d, pairs, values)
+    rule_map(Rule::ColsLeft { k }, slots, log_d, pairs, values)
 }
 
 // Right half of phi^k: output (r, c) reads (r, c + k - d) where c + k >= d, else 0.
@@ -127,7 +127,7 @@ pub fn cols_right(
 ) -> Result<usize, Refusal>
     ensures { RuleWritten slots log_d (ColsRight k) pairs.old pairs.new values.old values.new result }
 {
-    rule_map(Rule::ColsRight { k: k }, slots, log_d, pairs, values)
+    rule_map(Rule::ColsRight { k }, slots, log_d, pairs, values)
 }
 
 // The columns of psi^k that phi^k keeps: output (r, c) reads (r + k mod d, c) where c + k < d, else 0.
@@ -141,7 +141,7 @@ pub fn rows_left(
 ) -> Result<usize, Refusal>
     ensures { RuleWritten slots log_d (RowsLeft k) pairs.old pairs.new values.old values.new result }
 {
-    rule_map(Rule::RowsLeft { k: k }, slots, log_d, pairs, values)
+    rule_map(Rule::RowsLeft { k }, slots, log_d, pairs, values)
 }
 
 // The columns of psi^k that phi^k wraps: output (r, c) reads (r + k mod d, c) where c + k >= d, else 0.
@@ -155,5 +155,5 @@ pub fn rows_right(
 ) -> Result<usize, Refusal>
     ensures { RuleWritten slots log_d (RowsRight k) pairs.old pairs.new values.old values.new result }
 {
-    rule_map(Rule::RowsRight { k: k }, slots, log_d, pairs, values)
+    rule_map(Rule::RowsRight { k }, slots, log_d, pairs, values)
 }

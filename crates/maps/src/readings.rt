@@ -21,7 +21,7 @@ pub(crate) fn folded(x: usize, d: usize) -> usize
 }
 
 // The place of the entry (r, c) where it is read.
-// Kept: an entry with its bounds as ghost fields would name its side, and each contract that two sides are one.
+// Kept: a rule's test is an argument, so that `read_at` is a table of one line for each rule.
 fn entry(there: bool, d: usize, r: usize, c: usize) -> Option<usize>
     requires { Within d r c }
     ensures { result ≡ place_of d (reading there r c) }
@@ -63,7 +63,6 @@ impl Summands for Reads {
 
     ghost summand = { λ m t l. read_summand m.rule (2 ^ m.side.log_d) t };
 
-    // Kept: `period` and `width` are two methods of one trait.
     fn period(&self) -> usize {
         self.side.size()
     }

@@ -11,7 +11,7 @@ use crate::side::Side;
 use ring::Refusal;
 
 // The pairs of d diagonals, the i-th at offset i·d.
-// Kept: by their number, since only the store knows where the words of a pair stand.
+// Kept: by their number, since only the store writes a pair.
 fn write_pairs(d: usize, len: usize, pairs: &mut [u32])
     requires d_bound { d ≤ 256 }
     requires len_bound { len ≤ 65536 }

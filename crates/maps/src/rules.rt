@@ -5,7 +5,7 @@ ghost use Rattle.maps.specs.Readings.{shift_of, goes_round, shift_limit, made_sh
 use crate::side::Side;
 
 // The maps whose output (r, c) reads one entry or none, in every matrix slot alike.
-#[derive(Clone, Copy)]
+#[derive(Clone, Copy, Debug, PartialEq, Eq)]
 pub enum Rule {
     Sigma,
     Tau,
@@ -67,7 +67,7 @@ impl Rule {
 }
 
 // The maps whose output (r, c) sums d entries times entries of public matrices.
-#[derive(Clone, Copy)]
+#[derive(Clone, Copy, Debug, PartialEq, Eq)]
 pub enum Product {
     RightMul,
     LeftMul,

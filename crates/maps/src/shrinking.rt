@@ -5,7 +5,7 @@ ghost use Rattle.diagonals.specs.Maps.{pair_room, offset_at};
 ghost use Rattle.maps.specs.Steps.Rows.{row_pairs};
 ghost use Rattle.maps.specs.Steps.Shrinking.{Even, Shrank, Narrowing, moved_at};
 
-// Kept: by their number, since only the store knows where the words of a pair stand.
+// Kept: by their number, since only the store writes a pair.
 fn write_lengths(count: usize, p: usize, pairs: &mut [u32])
     requires p_bound { p ≤ 65536 }
     requires count_in_bounds { pair_room count ≤ length pairs.old }
@@ -29,7 +29,8 @@ fn move_rows(period: usize, p: usize, count: usize, values: &mut [u64])
     }
 }
 
-// Stores the diagonals of a map, all of length `period`, at their common period.
+// Stores the diagonals of a map, all of length `period`, at their common period. No such map is refused.
+// Kept: C lends a map's buffers, which this call writes, and a `Map` has its buffers by `&`.
 pub(crate) fn shrink_in_place(
     slots: usize,
     period: usize,
@@ -40,9 +41,7 @@ pub(crate) fn shrink_in_place(
     requires { Even slots period count pairs.old values.old }
     ensures { Shrank period count pairs.old pairs.new values.old values.new }
 {
-    let Ok(p) = diagonals::shrunk_period(slots, count, pairs, values) else {
-        return;
-    };
+    let p = diagonals::shrunk_period(slots, count, pairs, values).unwrap();
     if p == period {
         return;
     }

@@ -97,7 +97,6 @@ impl<'a> Summands for Sums<'a> {
         }
     }
 
-    // Kept: `period` and `width` are two methods of one trait.
     fn width(&self) -> usize {
         self.side.rows()
     }

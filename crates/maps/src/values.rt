@@ -114,6 +114,7 @@ fn write_ones(n: usize, out: &mut [u64])
 }
 
 // One diagonal at offset 0 of `len` values, the first n of them 1 and the others 0.
+// Kept: C lends the two buffers one by one, and a struct of two `&mut` has no ghost fields.
 fn project(n: usize, len: usize, pairs: &mut [u32], values: &mut [u64]) -> Result<usize, Refusal>
     requires { len ≤ 65536 }
     ensures { OnesWritten n len pairs.old pairs.new values.old values.new result }
@@ -153,6 +154,7 @@ pub fn first_col(
 }
 
 // The product by the slot vector v rotated: one diagonal at offset 0.
+// Kept: the test of refusal 4 by itself, since the store's `is_period` takes u32s, and v may be longer than they go.
 pub fn slot_product(
     slots: usize,
     v: &[u64],

@@ -7,22 +7,22 @@ use std::alloc::{AllocError, Global};
 use std::fmt;
 
 #[derive(Drop)]
-pub(crate) struct Answer {
-    line: String,
+pub(crate) struct Line {
+    text: String,
 }
 
-impl Answer {
+impl Line {
     pub(crate) fn new(alloc: Global) -> Self {
-        Answer {
-            line: String::new(alloc),
+        Line {
+            text: String::new(alloc),
         }
     }
 
     pub(crate) fn number(&mut self, number: u64) -> Result<(), AllocError> {
-        if !self.line.is_empty() {
-            self.line.push(' ')?;
+        if !self.text.is_empty() {
+            self.text.push(' ')?;
         }
-        write!(self.line, "{number}")
+        write!(self.text, "{number}")
     }
 
     pub(crate) fn show(&mut self, value: impl Shown) -> Result<(), AllocError> {
@@ -37,9 +37,9 @@ impl Answer {
     }
 }
 
-impl fmt::Display for Answer {
+impl fmt::Display for Line {
     fn fmt<W: fmt::Write>(&self, f: &mut fmt::Formatter<W>) -> fmt::Result {
-        f.write_str(self.line.as_str())
+        f.write_str(self.text.as_str())
     }
 }
 
@@ -47,13 +47,13 @@ impl fmt::Display for Answer {
 pub(crate) trait Shown: Drop {
     const EMPTY: Self;
 
-    fn show(self, answer: &mut Answer) -> Result<(), AllocError>;
+    fn show(self, answer: &mut Line) -> Result<(), AllocError>;
 }
 
 impl<T: Shown> Shown for Result<T, Refusal> {
     const EMPTY: Self = Ok(T::EMPTY);
 
-    fn show(self, answer: &mut Answer) -> Result<(), AllocError> {
+    fn show(self, answer: &mut Line) -> Result<(), AllocError> {
         match self {
             Ok(value) => {
                 answer.number(0)?;
@@ -70,7 +70,7 @@ impl<T: Shown> Shown for Result<T, Refusal> {
 impl Shown for () {
     const EMPTY: Self = ();
 
-    fn show(self, _answer: &mut Answer) -> Result<(), AllocError> {
+    fn show(self, _answer: &mut Line) -> Result<(), AllocError> {
         Ok(())
     }
 }
@@ -79,7 +79,7 @@ impl Shown for () {
 impl Shown for u64 {
     const EMPTY: Self = 0;
 
-    fn show(self, answer: &mut Answer) -> Result<(), AllocError> {
+    fn show(self, answer: &mut Line) -> Result<(), AllocError> {
         answer.number(self)
     }
 }
@@ -87,8 +87,7 @@ impl Shown for u64 {
 impl Shown for u32 {
     const EMPTY: Self = 0;
 
-    // Kept: one `Shown` for each type.
-    fn show(self, answer: &mut Answer) -> Result<(), AllocError> {
+    fn show(self, answer: &mut Line) -> Result<(), AllocError> {
         answer.number(u64::from(self))
     }
 }
@@ -96,8 +95,7 @@ impl Shown for u32 {
 impl Shown for u8 {
     const EMPTY: Self = 0;
 
-    // Kept: one `Shown` for each type.
-    fn show(self, answer: &mut Answer) -> Result<(), AllocError> {
+    fn show(self, answer: &mut Line) -> Result<(), AllocError> {
         answer.number(u64::from(self))
     }
 }
@@ -105,7 +103,7 @@ impl Shown for u8 {
 impl Shown for usize {
     const EMPTY: Self = 0;
 
-    fn show(self, answer: &mut Answer) -> Result<(), AllocError> {
+    fn show(self, answer: &mut Line) -> Result<(), AllocError> {
         answer.number(self as u64)
     }
 }
@@ -113,8 +111,7 @@ impl Shown for usize {
 impl Shown for bool {
     const EMPTY: Self = false;
 
-    // Kept: one `Shown` for each type.
-    fn show(self, answer: &mut Answer) -> Result<(), AllocError> {
+    fn show(self, answer: &mut Line) -> Result<(), AllocError> {
         answer.number(u64::from(self))
     }
 }
@@ -123,7 +120,7 @@ impl Shown for bool {
 impl Shown for Digit {
     const EMPTY: Self = Digit(0);
 
-    fn show(self, answer: &mut Answer) -> Result<(), AllocError> {
+    fn show(self, answer: &mut Line) -> Result<(), AllocError> {
         answer.show(ring::residue(self.0, 65536))
     }
 }
@@ -135,7 +132,7 @@ impl Shown for PlanSizes {
         diagonals: 0,
     };
 
-    fn show(self, answer: &mut Answer) -> Result<(), AllocError> {
+    fn show(self, answer: &mut Line) -> Result<(), AllocError> {
         answer.list(&[self.babies, self.giants, self.diagonals])
     }
 }
@@ -146,8 +143,7 @@ impl Shown for PassSizes {
         moves: 0,
     };
 
-    // Kept: one `Shown` for each type.
-    fn show(self, answer: &mut Answer) -> Result<(), AllocError> {
+    fn show(self, answer: &mut Line) -> Result<(), AllocError> {
         answer.show(self.passes)?;
         answer.show(self.moves)
     }
@@ -157,7 +153,7 @@ impl Shown for PassSizes {
 impl Shown for Option<TreeSizes> {
     const EMPTY: Self = None;
 
-    fn show(self, answer: &mut Answer) -> Result<(), AllocError> {
+    fn show(self, answer: &mut Line) -> Result<(), AllocError> {
         let TreeSizes { bits, pairs } = self.unwrap_or(TreeSizes { bits: 0, pairs: 0 });
         answer.show(bits)?;
         answer.show(pairs)
@@ -174,7 +170,7 @@ impl Shown for Progress {
         pairs: 0,
     };
 
-    fn show(self, answer: &mut Answer) -> Result<(), AllocError> {
+    fn show(self, answer: &mut Line) -> Result<(), AllocError> {
         answer.show(self.switches)?;
         answer.show(self.finished)?;
         answer.list(&[self.babies, self.giants, self.diagonals])?;
@@ -189,8 +185,7 @@ impl Shown for PairRecord {
         even_there: false,
     };
 
-    // Kept: one `Shown` for each type.
-    fn show(self, answer: &mut Answer) -> Result<(), AllocError> {
+    fn show(self, answer: &mut Line) -> Result<(), AllocError> {
         answer.show(self.odd)?;
         answer.show(self.even_there)
     }
@@ -199,8 +194,7 @@ impl Shown for PairRecord {
 impl Shown for FileMap {
     const EMPTY: Self = FileMap { slots: 0, count: 0 };
 
-    // Kept: one `Shown` for each type.
-    fn show(self, answer: &mut Answer) -> Result<(), AllocError> {
+    fn show(self, answer: &mut Line) -> Result<(), AllocError> {
         answer.list(&[self.slots, self.count])
     }
 }
@@ -211,8 +205,7 @@ impl Shown for FileRoom {
         values: 0,
     };
 
-    // Kept: one `Shown` for each type.
-    fn show(self, answer: &mut Answer) -> Result<(), AllocError> {
+    fn show(self, answer: &mut Line) -> Result<(), AllocError> {
         answer.list(&[self.pairs, self.values])
     }
 }

@@ -1,5 +1,5 @@
 // The calls of the sample, each at its code (docs/SAMPLE.md).
-use crate::answer::Answer;
+use crate::answer::Line;
 use crate::files::FileCall;
 use crate::lists::ListCall;
 use crate::matrices::{MapOfMatrices, MatrixCall};
@@ -8,7 +8,7 @@ use crate::plans::PlanCall;
 use crate::rotations::{self, RotationsCall};
 use crate::stored::MapCall;
 use crate::words::Words;
-use std::alloc::{AllocError, Global};
+use std::alloc::AllocError;
 
 #[derive(Clone, Copy)]
 pub(crate) enum Call {
@@ -85,21 +85,16 @@ impl TryFrom<u64> for Call {
 }
 
 impl Call {
-    pub(crate) fn answer(
-        self,
-        alloc: Global,
-        words: &mut Words<'_>,
-        answer: &mut Answer,
-    ) -> Result<(), AllocError> {
+    pub(crate) fn answer(self, words: &mut Words<'_>, answer: &mut Line) -> Result<(), AllocError> {
         match self {
             Call::Numbers(call) => call.answer(words, answer),
-            Call::Lists(call) => call.answer(alloc, words, answer),
-            Call::Stored(call) => call.answer(alloc, words, answer),
-            Call::Plans(call) => call.answer(alloc, words, answer),
-            Call::Rotations(call) => call.answer(alloc, words, answer),
-            Call::Matrices(call) => call.answer(alloc, words, answer),
-            Call::Keyed => crate::keyed::answer(alloc, words, answer),
-            Call::Files(call) => call.answer(alloc, words, answer),
+            Call::Lists(call) => call.answer(words, answer),
+            Call::Stored(call) => call.answer(words, answer),
+            Call::Plans(call) => call.answer(words, answer),
+            Call::Rotations(call) => call.answer(words, answer),
+            Call::Matrices(call) => call.answer(words, answer),
+            Call::Keyed => crate::keyed::answer(words, answer),
+            Call::Files(call) => call.answer(words, answer),
         }
     }
 }

@@ -14,7 +14,7 @@ mod rotations;
 mod stored;
 mod words;
 
-use crate::answer::Answer;
+use crate::answer::Line;
 use crate::call::Call;
 use crate::words::Words;
 use std::alloc::{AllocError, Global};
@@ -29,16 +29,15 @@ fn numbers_of(alloc: Global, line: &str) -> Result<Vec<u64>, AllocError> {
 }
 
 // A line that begins with no call's code has an empty answer.
-// Kept: `Answer::new` makes the line that is printed, no enum of a refusal.
-fn answer_to(alloc: Global, line: &str) -> Result<Answer, AllocError> {
+fn answer_to(alloc: Global, line: &str) -> Result<Line, AllocError> {
     let numbers = numbers_of(alloc, line)?;
-    let mut words = Words::new(&numbers);
+    let mut words = Words::new(alloc, &numbers);
     let code = words.word();
     let count = words.size();
-    let mut own = Words::new(words.list(count));
-    let mut answer = Answer::new(alloc);
+    let mut own = Words::new(alloc, words.list(count));
+    let mut answer = Line::new(alloc);
     if let Ok(call) = Call::try_from(code) {
-        call.answer(alloc, &mut own, &mut answer)?;
+        call.answer(&mut own, &mut answer)?;
     }
     Ok(answer)
 }

@@ -1,5 +1,5 @@
 // The calls whose words are numbers alone.
-use crate::answer::Answer;
+use crate::answer::Line;
 use crate::words::Words;
 use std::alloc::AllocError;
 
@@ -16,7 +16,7 @@ pub(crate) enum NumberCall {
 }
 
 impl NumberCall {
-    pub(crate) fn answer(self, w: &mut Words<'_>, answer: &mut Answer) -> Result<(), AllocError> {
+    pub(crate) fn answer(self, w: &mut Words<'_>, answer: &mut Line) -> Result<(), AllocError> {
         match self {
             NumberCall::WrappingMul => answer.show(ring::wrapping_mul(w.word(), w.word())),
             NumberCall::Residue => answer.show(ring::residue(w.signed(), w.narrow())),

@@ -1,9 +1,9 @@
 // The calls of plans: a strategy's kind and width, slots, the length of what is written, the indexes.
 // What a call writes holds sevens before.
-use crate::answer::Answer;
-use crate::words::{Words, all_signed, lent};
+use crate::answer::Line;
+use crate::words::Words;
 use linear_transformation::LinearTransformationStrategy;
-use std::alloc::{AllocError, Global};
+use std::alloc::AllocError;
 
 #[derive(Clone, Copy)]
 pub(crate) enum PlanCall {
@@ -16,7 +16,7 @@ pub(crate) enum PlanCall {
 }
 
 // A kind that there is not has no width.
-// Kept: the sample's format gives the kind as a number, and every number has an answer, so TryFrom would have no error to give.
+// Kept: the sample gives the kind as a number, as C does; no `From` for another crate's type can stand here or in `sibukyaran`.
 fn strategy_of(kind: u64, giant_step: usize) -> LinearTransformationStrategy {
     match kind {
         0 => LinearTransformationStrategy::Bsgs { giant_step },
@@ -32,18 +32,13 @@ pub(crate) fn strategy(words: &mut Words<'_>) -> LinearTransformationStrategy {
 }
 
 impl PlanCall {
-    pub(crate) fn answer(
-        self,
-        alloc: Global,
-        words: &mut Words<'_>,
-        answer: &mut Answer,
-    ) -> Result<(), AllocError> {
+    pub(crate) fn answer(self, words: &mut Words<'_>, answer: &mut Line) -> Result<(), AllocError> {
         let kind = words.word();
         let width = words.size();
         let strategy = strategy_of(kind, width);
         let slots = words.size();
-        let mut out = lent(alloc, words.size(), 7u32)?;
-        let indexes = all_signed(alloc, words.rest())?;
+        let mut out = words.lent(7u32)?;
+        let indexes = words.rest_signed()?;
         match self {
             PlanCall::Index => answer.show(linear_transformation::linear_transform_index(
                 &indexes, slots, strategy, &mut out,

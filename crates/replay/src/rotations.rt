@@ -1,9 +1,9 @@
 // The calls of lists of babies and giants: rotations (kind, baby step, giant step, slots), the lengths
 // of what is written, the list. What a call writes holds sevens before, and records odd 7 with an even.
-use crate::answer::Answer;
-use crate::words::{Words, all_signed, lent};
+use crate::answer::Line;
+use crate::words::Words;
 use linear_transformation::{BsgsRotations, PairRecord};
-use std::alloc::{AllocError, Global};
+use std::alloc::AllocError;
 
 #[derive(Clone, Copy)]
 pub(crate) enum RotationsCall {
@@ -21,9 +21,11 @@ pub(crate) enum ListCall {
     GiantKeys,
 }
 
-// A kind that there is not has no steps.
-// Kept: the sample's format gives this kind as a number too, and every number has an answer.
-fn rotations_of(kind: u64, baby_step: usize, giant_step: usize, slots: usize) -> BsgsRotations {
+// Their kind, the two steps, slots. A kind that there is not has no steps.
+// Kept: the sample gives the kind as a number, and no `From` for another crate's type can stand here.
+fn rotations(words: &mut Words<'_>) -> BsgsRotations {
+    let kind = words.word();
+    let (baby_step, giant_step, slots) = (words.size(), words.size(), words.size());
     match kind {
         0 => BsgsRotations::PerRotation,
         1 => BsgsRotations::PowersOfTwo {
@@ -40,92 +42,71 @@ fn rotations_of(kind: u64, baby_step: usize, giant_step: usize, slots: usize) ->
 }
 
 impl RotationsCall {
-    pub(crate) fn answer(
-        self,
-        alloc: Global,
-        words: &mut Words<'_>,
-        answer: &mut Answer,
-    ) -> Result<(), AllocError> {
-        let rotations = rotations_of(words.word(), words.size(), words.size(), words.size());
+    pub(crate) fn answer(self, words: &mut Words<'_>, answer: &mut Line) -> Result<(), AllocError> {
         match self {
-            RotationsCall::BabyPasses => baby_passes(alloc, rotations, words, answer),
-            RotationsCall::GiantTree => giant_tree(alloc, rotations, words, answer),
-            RotationsCall::GiantSwitches => giant_key_switches(alloc, rotations, words, answer),
-            RotationsCall::List(call) => call.answer(alloc, rotations, words, answer),
+            RotationsCall::BabyPasses => baby_passes(words, answer),
+            RotationsCall::GiantTree => giant_tree(words, answer),
+            RotationsCall::GiantSwitches => giant_key_switches(words, answer),
+            RotationsCall::List(call) => call.answer(words, answer),
         }
     }
 }
 
 impl ListCall {
-    fn answer(
-        self,
-        alloc: Global,
-        rotations: BsgsRotations,
-        words: &mut Words<'_>,
-        answer: &mut Answer,
-    ) -> Result<(), AllocError> {
-        let mut out = lent(alloc, words.size(), 7u32)?;
-        let list = all_signed(alloc, words.rest())?;
-        match self {
-            ListCall::BabyClosure => answer.show(linear_transformation::baby_closure(
+    fn answer(self, words: &mut Words<'_>, answer: &mut Line) -> Result<(), AllocError> {
+        let rotations = rotations(words);
+        let mut out = words.lent(7u32)?;
+        let list = words.rest_signed()?;
+        let written = match self {
+            ListCall::BabyClosure => linear_transformation::baby_closure(
                 rotations, &list, &mut out,
-            )),
-            ListCall::BabyKeys => answer.show(linear_transformation::baby_key_rotations(
+            ),
+            ListCall::BabyKeys => linear_transformation::baby_key_rotations(
                 rotations, &list, &mut out,
-            )),
-            ListCall::GiantKeys => answer.show(linear_transformation::giant_key_rotations(
+            ),
+            ListCall::GiantKeys => linear_transformation::giant_key_rotations(
                 rotations, &list, &mut out,
-            )),
-        }?;
+            ),
+        };
+        answer.show(written)?;
         answer.list(&out)
     }
 }
 
 // The length of what is written stands before the giants, though nothing is.
-fn giant_key_switches(
-    alloc: Global,
-    rotations: BsgsRotations,
-    words: &mut Words<'_>,
-    answer: &mut Answer,
-) -> Result<(), AllocError> {
+fn giant_key_switches(words: &mut Words<'_>, answer: &mut Line) -> Result<(), AllocError> {
+    let rotations = rotations(words);
     words.size();
-    let giants = all_signed(alloc, words.rest())?;
+    let giants = words.rest_signed()?;
     answer.show(linear_transformation::giant_key_switches(rotations, &giants))
 }
 
-fn baby_passes(
-    alloc: Global,
-    rotations: BsgsRotations,
-    words: &mut Words<'_>,
-    answer: &mut Answer,
-) -> Result<(), AllocError> {
-    let mut passes = lent(alloc, words.size(), 7u32)?;
-    let mut moves = lent(alloc, words.size(), 7u32)?;
-    let babies = all_signed(alloc, words.rest())?;
+fn baby_passes(words: &mut Words<'_>, answer: &mut Line) -> Result<(), AllocError> {
+    let rotations = rotations(words);
+    let mut passes = words.lent(7u32)?;
+    let mut moves = words.lent(7u32)?;
+    let babies = words.rest_signed()?;
     answer.show(linear_transformation::baby_passes(rotations, &babies, &mut passes, &mut moves))?;
     answer.list(&passes)?;
     answer.list(&moves)
 }
 
-// `n` records as a call finds them.
-pub(crate) fn lent_records(alloc: Global, n: usize) -> Result<Vec<PairRecord>, AllocError> {
+// Records as a call finds them; the next word is their number.
+pub(crate) fn lent_records(words: &mut Words<'_>) -> Result<Vec<PairRecord>, AllocError> {
+    let n = words.size().min(256);
     let held = PairRecord {
         odd: 7,
         even_there: true,
     };
-    lent(alloc, n.min(256), held)
+    words.buffer(n, held)
 }
 
-fn giant_tree(
-    alloc: Global,
-    rotations: BsgsRotations,
-    words: &mut Words<'_>,
-    answer: &mut Answer,
-) -> Result<(), AllocError> {
-    let mut leaves = lent(alloc, words.size(), 7u32)?;
-    let mut levels = lent(alloc, words.size(), 7u32)?;
-    let mut records = lent_records(alloc, words.size())?;
-    let giants = all_signed(alloc, words.rest())?;
+fn giant_tree(words: &mut Words<'_>, answer: &mut Line) -> Result<(), AllocError> {
+    let rotations = rotations(words);
+    let mut leaves = words.lent(7u32)?;
+    let mut levels = words.lent(7u32)?;
+    let mut records = lent_records(words)?;
+    let giants = words.rest_signed()?;
     answer.show(linear_transformation::giant_tree(
         rotations,
         &giants,

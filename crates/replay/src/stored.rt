@@ -1,9 +1,10 @@
 // The calls that have a map behind their own words: slots, count, np, nv, np pair words, nv value
 // words. What a call writes holds sevens before, except the map of `set`.
-use crate::answer::Answer;
+use crate::answer::{Line, Shown};
 use crate::plans::strategy;
-use crate::words::{Words, lent, narrowed};
-use std::alloc::{AllocError, Global};
+use crate::words::Words;
+use ring::Refusal;
+use std::alloc::AllocError;
 
 #[derive(Clone, Copy)]
 pub(crate) enum MapCall {
@@ -19,6 +20,7 @@ pub(crate) enum MapCall {
 }
 
 // The map of a call.
+// Kept: the library takes these four one by one, as C lends them, so that each call below writes them out.
 #[derive(Drop)]
 pub(crate) struct StoredMap<'a> {
     pub(crate) slots: usize,
@@ -28,12 +30,12 @@ pub(crate) struct StoredMap<'a> {
 }
 
 impl<'a> StoredMap<'a> {
-    pub(crate) fn read(alloc: Global, words: &mut Words<'a>) -> Result<Self, AllocError> {
+    pub(crate) fn read(words: &mut Words<'a>) -> Result<Self, AllocError> {
         let slots = words.size();
         let count = words.size();
         let np = words.size();
         let nv = words.size();
-        let pairs = narrowed(alloc, words.list(np))?;
+        let pairs = words.narrowed(np)?;
         let values = words.list(nv);
         Ok(StoredMap {
             slots,
@@ -45,40 +47,43 @@ impl<'a> StoredMap<'a> {
 }
 
 impl MapCall {
-    pub(crate) fn answer(
-        self,
-        alloc: Global,
-        words: &mut Words<'_>,
-        answer: &mut Answer,
-    ) -> Result<(), AllocError> {
+    pub(crate) fn answer(self, words: &mut Words<'_>, answer: &mut Line) -> Result<(), AllocError> {
         match self {
-            MapCall::Get => get(alloc, words, answer),
-            MapCall::Set => set(alloc, words, answer),
-            MapCall::ShrinkPeriod => shrink_period(alloc, words, answer),
-            MapCall::Transpose => transpose(alloc, words, answer),
-            MapCall::Evaluate => evaluate(alloc, words, answer),
-            MapCall::Indexes => indexes(alloc, words, answer),
+            MapCall::Get => get(words, answer),
+            MapCall::Set => set(words, answer),
+            MapCall::ShrinkPeriod => write_map(words, answer, |m, pairs, values| {
+                diagonals::shrink_period(m.slots, m.count, &m.pairs, m.values, pairs, values)
+            }),
+            MapCall::Transpose => write_map(words, answer, |m, pairs, values| {
+                diagonals::transpose(m.slots, m.count, &m.pairs, m.values, pairs, values)
+            }),
+            MapCall::Evaluate => evaluate(words, answer),
+            MapCall::Indexes => write_list(words, answer, 7u32, |m, out| {
+                diagonals::indexes(m.slots, m.count, &m.pairs, m.values, out)
+            }),
             MapCall::IsEmpty => {
-                let map = StoredMap::read(alloc, words)?;
+                let map = StoredMap::read(words)?;
                 answer.show(diagonals::is_empty(map.slots, map.count, &map.pairs, map.values))
             }
             MapCall::FileSize => {
-                let map = StoredMap::read(alloc, words)?;
+                let map = StoredMap::read(words)?;
                 answer.show(map_file::map_file_size(map.slots, map.count, &map.pairs, map.values))
             }
-            MapCall::WriteFile => write_file(alloc, words, answer),
+            MapCall::WriteFile => write_list(words, answer, 7u8, |m, out| {
+                map_file::write_map_file(m.slots, m.count, &m.pairs, m.values, out)
+            }),
         }
     }
 }
 
-fn get(alloc: Global, words: &mut Words<'_>, answer: &mut Answer) -> Result<(), AllocError> {
+fn get(words: &mut Words<'_>, answer: &mut Line) -> Result<(), AllocError> {
     let index = words.signed();
-    let map = StoredMap::read(alloc, words)?;
+    let map = StoredMap::read(words)?;
     answer.show(diagonals::period(map.slots, map.count, &map.pairs, map.values, index))?;
     answer.list(diagonals::get(map.slots, map.count, &map.pairs, map.values, index))
 }
 
-fn set(alloc: Global, words: &mut Words<'_>, answer: &mut Answer) -> Result<(), AllocError> {
+fn set(words: &mut Words<'_>, answer: &mut Line) -> Result<(), AllocError> {
     let index = words.signed();
     let n = words.size();
     let new = words.list(n);
@@ -87,75 +92,53 @@ fn set(alloc: Global, words: &mut Words<'_>, answer: &mut Answer) -> Result<(), 
         count,
         mut pairs,
         values,
-    } = StoredMap::read(alloc, words)?;
-    let mut values = Vec::from_slice(alloc, values)?;
+    } = StoredMap::read(words)?;
+    let mut values = Vec::from_slice(words.alloc, values)?;
     answer.show(diagonals::set(slots, count, &mut pairs, &mut values, index, new))?;
     answer.list(&pairs)?;
     answer.list(&values)
 }
 
-// The lengths of what is written, np and nv, then the map; here and for `transpose`.
-fn shrink_period(
-    alloc: Global,
-    words: &mut Words<'_>,
-    answer: &mut Answer,
-) -> Result<(), AllocError> {
-    let mut pairs = lent(alloc, words.size(), 7u32)?;
-    let mut values = lent(alloc, words.size(), 7u64)?;
-    let map = StoredMap::read(alloc, words)?;
-    answer.show(diagonals::shrink_period(
-        map.slots,
-        map.count,
-        &map.pairs,
-        map.values,
-        &mut pairs,
-        &mut values,
-    ))?;
-    answer.list(&pairs)?;
-    answer.list(&values)
-}
-
-fn transpose(alloc: Global, words: &mut Words<'_>, answer: &mut Answer) -> Result<(), AllocError> {
-    let mut pairs = lent(alloc, words.size(), 7u32)?;
-    let mut values = lent(alloc, words.size(), 7u64)?;
-    let map = StoredMap::read(alloc, words)?;
-    answer.show(diagonals::transpose(
-        map.slots,
-        map.count,
-        &map.pairs,
-        map.values,
-        &mut pairs,
-        &mut values,
-    ))?;
+// The calls that write a map: the lengths of what is written, np and nv, then the map.
+fn write_map<F>(words: &mut Words<'_>, answer: &mut Line, write: F) -> Result<(), AllocError>
+where
+    F: FnOnce(&StoredMap<'_>, &mut [u32], &mut [u64]) -> Result<usize, Refusal>,
+    requires { F.IsAlwaysCallable write }
+{
+    let mut pairs = words.lent(7u32)?;
+    let mut values = words.lent(7u64)?;
+    let map = StoredMap::read(words)?;
+    answer.show(write(&map, &mut pairs, &mut values))?;
     answer.list(&pairs)?;
     answer.list(&values)
 }
 
 // A strategy's kind and width, the length of out, that of the input, the input, the map.
-fn evaluate(alloc: Global, words: &mut Words<'_>, answer: &mut Answer) -> Result<(), AllocError> {
+fn evaluate(words: &mut Words<'_>, answer: &mut Line) -> Result<(), AllocError> {
     let strategy = strategy(words);
-    let mut out = lent(alloc, words.size(), 7u64)?;
+    let mut out = words.lent(7u64)?;
     let n = words.size();
     let input = words.list(n);
-    let map = StoredMap::read(alloc, words)?;
+    let map = StoredMap::read(words)?;
     answer.show(runs::evaluate(
         map.slots, map.count, &map.pairs, map.values, input, strategy, &mut out,
     ))?;
     answer.list(&out)
 }
 
-// Kept: `write_file` lends bytes and calls another function; one over both would take the call as a closure for these lines.
-fn indexes(alloc: Global, words: &mut Words<'_>, answer: &mut Answer) -> Result<(), AllocError> {
-    let mut out = lent(alloc, words.size(), 7u32)?;
-    let map = StoredMap::read(alloc, words)?;
-    answer.show(diagonals::indexes(map.slots, map.count, &map.pairs, map.values, &mut out))?;
-    answer.list(&out)
-}
-
-// Kept: as `indexes`.
-fn write_file(alloc: Global, words: &mut Words<'_>, answer: &mut Answer) -> Result<(), AllocError> {
-    let mut out = lent(alloc, words.size(), 7u8)?;
-    let map = StoredMap::read(alloc, words)?;
-    answer.show(map_file::write_map_file(map.slots, map.count, &map.pairs, map.values, &mut out))?;
+// The calls that write one list: its length, then the map.
+fn write_list<T: Shown + Copy, F>(
+    words: &mut Words<'_>,
+    answer: &mut Line,
+    held: T,
+    write: F,
+) -> Result<(), AllocError>
+where
+    F: FnOnce(&StoredMap<'_>, &mut [T]) -> Result<usize, Refusal>,
+    requires { F.IsAlwaysCallable write }
+{
+    let mut out = words.lent(held)?;
+    let map = StoredMap::read(words)?;
+    answer.show(write(&map, &mut out))?;
     answer.list(&out)
 }

@@ -1,15 +1,17 @@
 // The words of a call, read one after the other.
 use std::alloc::{AllocError, Global};
 
-// A word that is not there is 0, and a list ends where the words end.
+// A word that is not there is 0, and a list ends where the words end. Copies of words and what a call
+// is lent are made in `alloc`.
 #[derive(Clone, Copy)]
 pub(crate) struct Words<'a> {
+    pub(crate) alloc: Global,
     rest: &'a [u64],
 }
 
 impl<'a> Words<'a> {
-    pub(crate) fn new(rest: &'a [u64]) -> Self {
-        Words { rest }
+    pub(crate) fn new(alloc: Global, rest: &'a [u64]) -> Self {
+        Words { alloc, rest }
     }
 
     pub(crate) fn word(&mut self) -> u64 {
@@ -41,29 +43,42 @@ impl<'a> Words<'a> {
         list
     }
 
+    pub(crate) fn narrowed(&mut self, n: usize) -> Result<Vec<u32>, AllocError> {
+        let list = self.list(n);
+        list.iter().map(|&word| narrow(word)).collect(self.alloc)
+    }
+
     pub(crate) fn rest(&self) -> &'a [u64] {
         self.rest
+    }
+
+    pub(crate) fn rest_signed(&self) -> Result<Vec<i64>, AllocError> {
+        self.rest
+            .iter()
+            .map(|&word| word.cast_signed())
+            .collect(self.alloc)
+    }
+
+    // The low byte of each word.
+    pub(crate) fn rest_bytes(&self) -> Result<Vec<u8>, AllocError> {
+        self.rest
+            .iter()
+            .map(|&word| (word & 0xff) as u8)
+            .collect(self.alloc)
+    }
+
+    // A lent buffer, whose length is the next word.
+    pub(crate) fn lent<T: Copy>(&mut self, held: T) -> Result<Vec<T>, AllocError> {
+        let n = self.size();
+        self.buffer(n, held)
+    }
+
+    // A lent buffer of n words, of which the program has 512 at most.
+    pub(crate) fn buffer<T: Copy>(&self, n: usize, held: T) -> Result<Vec<T>, AllocError> {
+        vec![in self.alloc; held; n.min(512)]
     }
 }
 
 fn narrow(word: u64) -> u32 {
     (word & 0xffff_ffff) as u32
-}
-
-pub(crate) fn narrowed(alloc: Global, words: &[u64]) -> Result<Vec<u32>, AllocError> {
-    words.iter().map(|&word| narrow(word)).collect(alloc)
-}
-
-// Kept: each word gives its low byte; std has no From that cuts.
-pub(crate) fn bytes_of(alloc: Global, words: &[u64]) -> Result<Vec<u8>, AllocError> {
-    words.iter().map(|&word| (word & 0xff) as u8).collect(alloc)
-}
-
-pub(crate) fn all_signed(alloc: Global, words: &[u64]) -> Result<Vec<i64>, AllocError> {
-    words.iter().map(|&word| word.cast_signed()).collect(alloc)
-}
-
-// A lent buffer of n words, of which the program has 512 at most.
-pub(crate) fn lent<T: Copy>(alloc: Global, n: usize, held: T) -> Result<Vec<T>, AllocError> {
-    vec![in alloc; held; n.min(512)]
 }

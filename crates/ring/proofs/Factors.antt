@@ -1,21 +1,14 @@
 -- The search for the smallest period by the primes of the length: what is left holds every prime by which the period is too large.
 -- Assumes nothing.
-use Rattle.std.proofs.Common.{◌≡◌, ℕ, ◌+◌, ◌*◌, ◌/◌, ◌%◌, ◌<◌, ◌≤◌, ◌⊎◌, List, length, get_or, sym, ap, ◌∙◌, inl, inr, ⊎_elim, le_trans, le_refl, lt_of_le_of_lt, mul-le-mul_right, mul_assoc, mul-le-mul, eq-or-lt_of_le, lt_of_not-le, mul-one, le-mul_of_pos_right, arith}
+use Rattle.std.proofs.Common.{◌≡◌, ℕ, ◌+◌, ◌*◌, ◌/◌, ◌%◌, ◌<◌, ◌≤◌, List, length, get_or, sym, ap, ◌∙◌, ⊎_elim, le_trans, le_refl, lt_of_le_of_lt, mul-le-mul_right, mul_assoc, mul-le-mul, eq-or-lt_of_le, mul-one, le-mul_of_pos_right, arith}
 use Prim.Native.Nat.{◌∣◌}
 use native.Mathlib.Nat.{le_of_dvd, le-suc, mod-le, mod-mod_of_dvd, mul-div_cancel', div-mul_cancel, dvd_refl, dvd_trans, dvd-mul_left, dvd-mul_right, mod-eq-zero_of_dvd, pos_of_dvd_of_pos, eq-one_of_dvd-one}
-use native.Mathlib.Decide.{dec_lt}
 use Rattle.ring.specs.Divisors.{gcd_of}
 use Rattle.ring.specs.Periods.{min_period, IsPeriod}
 use Rattle.ring.specs.Steps.{Reduced, Stripped}
+use Rattle.ring.specs.Laws.Searches.{lt_or_ge}
 use Rattle.ring.specs.Laws.Divisors.{is_gcd, gcd_pos, quotient_dvd}
 use Rattle.ring.specs.Laws.Periods.{min_is, min_divides, period_length}
-
-by_dec : {a b : ℕ} → Dec (a < b) → (a < b) ⊎ (b ≤ a)
-by_dec (yes l) = inl l
-by_dec {a} {b} (no n) = inr (omega (arith, lt_of_not-le n))
-
-lt_or_le : (a b : ℕ) → (a < b) ⊎ (b ≤ a)
-lt_or_le a b = by_dec (dec_lt a b)
 
 -- ---- numbers
 
@@ -41,13 +34,13 @@ rough_prime f n k h r d o l =
     (λ (a : k < f). r k o a d)
     (λ (a : f ≤ k).
     ⊎_elim
-    (λ (b : n / k < f). ⊎_elim (λ (c : 1 < n / k). r (n / k) c b (quotient_dvd n k d)) (λ (c : n / k ≤ 1). omega (arith, e, mul-le-mul_right k c)) (lt_or_le 1 (n / k)))
+    (λ (b : n / k < f). ⊎_elim (λ (c : 1 < n / k). r (n / k) c b (quotient_dvd n k d)) (λ (c : n / k ≤ 1). omega (arith, e, mul-le-mul_right k c)) (lt_or_ge 1 (n / k)))
     (λ (b : f ≤ n / k). omega (arith, e, mul-le-mul b a))
-    (lt_or_le (n / k) f))
-    (lt_or_le k f)
+    (lt_or_ge (n / k) f))
+    (lt_or_ge k f)
 
 rough_more : (f n : ℕ) → Rough f n → (f ∣ n → ⊥) → Rough (f + 1) n
-rough_more f n r x d o l h = ⊎_elim (λ (a : d < f). r d o a h) (λ (a : f ≤ d). let e : d ≡ f = omega arith in x (rw e at h)) (lt_or_le d f)
+rough_more f n r x d o l h = ⊎_elim (λ (a : d < f). r d o a h) (λ (a : f ≤ d). let e : d ≡ f = omega arith in x (rw e at h)) (lt_or_ge d f)
 
 -- ---- periods
 
@@ -147,5 +140,5 @@ module _ {v : List ℕ} (n : 0 < length v) where
       let d = excess_after r k h a.divides q in
       ⊎_elim
       (λ (e : k ≡ rest). absurd (reduced_by r k a q (rw e (dvd_refl rest))))
-      (λ (l : k < rest). ⊎_elim (λ (c : 1 < k). absurd (rough_prime f rest k s h.rough d c l)) (λ (c : k ≤ 1). omega (arith, pos_of_dvd_of_pos d h.positive)) (lt_or_le 1 k))
+      (λ (l : k < rest). ⊎_elim (λ (c : 1 < k). absurd (rough_prime f rest k s h.rough d c l)) (λ (c : k ≤ 1). omega (arith, pos_of_dvd_of_pos d h.positive)) (lt_or_ge 1 k))
       (eq-or-lt_of_le (le_of_dvd h.positive d)))

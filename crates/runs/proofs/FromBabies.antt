@@ -1,7 +1,7 @@
 -- The baby switches by a plan's own babies and its step: the turn of each, the switches as the schedule has them, and what the
 -- caching of them asks.
 -- Assumes nothing.
-use Rattle.std.proofs.Common.{◌≡◌, ℕ, zero, suc, ◌-◌, ◌*◌, ◌≤◌, true, List, ◌∷◌, map, length, get_or, take, sym, refl, ap, ◌∙◌, le_of_suc-le-suc, not-suc-le-zero, mul-le-mul_right, one-mul, arith}
+use Rattle.std.proofs.Common.{◌≡◌, ℕ, ◌-◌, ◌*◌, ◌≤◌, true, List, map, length, get_or, take, sym, refl, ap, ◌∙◌, mul-le-mul_right, one-mul, arith}
 use Rattle.ring.specs.Lists.{among, Each}
 use Rattle.ring.specs.Refusals.{Range}
 use Rattle.ring.specs.Vectors.{tabulate}
@@ -21,14 +21,8 @@ use Rattle.runs.specs.Laws.Schedules.{step_positive, plan_babies_rise, plan_babi
 use Rattle.std.specs.Prelude.{Some}
 use Rattle.linear_transformation.specs.Stored.{bits_for}
 use Rattle.runs.specs.Steps.Surveys.{powers_of}
+use Rattle.runs.proofs.FromGiants.{take_tabulate}
 use Rattle.runs.specs.Steps.Keyed.{turn_by, StepUpTo, Babies, Caching}
-
--- the first n of a table
-take_table : {A : Type 0} (n a : ℕ) (f : ℕ → A) → n ≤ a → take n (tabulate a f) ≡ tabulate n f
-take_table zero zero f h = refl
-take_table zero (suc a) f h = refl
-take_table (suc n) zero f h = absurd (not-suc-le-zero h)
-take_table {A} (suc n) (suc a) f h = ap (λ (t : List A). f 0 ∷ t) (take_table n a (λ k. f (suc k)) (le_of_suc-le-suc h))
 
 -- ---- turns
 
@@ -51,7 +45,7 @@ module _ (slots : ℕ) (strategy : LinearTransformationStrategy) (ks : List ℕ)
       let bs = plan_babies slots strategy ks in
       tabulate_cong n (making bs (turn_by (powers_of slots strategy ks))) (making bs (turn_of slots strategy ks))
       (λ p l. making_same bs (turn_by (powers_of slots strategy ks)) (turn_of slots strategy ks) (turn_by_lem slots strategy ks) p)
-      ∙ sym (ap (take n) (baby_schedule_lem slots strategy ks) ∙ take_table n (length (nonzeros bs)) (making bs (turn_of slots strategy ks)) h)
+      ∙ sym (ap (take n) (baby_schedule_lem slots strategy ks) ∙ take_tabulate n (length (nonzeros bs)) (making bs (turn_of slots strategy ks)) h)
 
   -- and so are their rotations
   pub babies_logged : tabulate n (λ p. rotation_of (making (plan_babies slots strategy ks) (turn_by (powers_of slots strategy ks)) p)) ≡ map rotation_of (take n (baby_schedule slots strategy ks))

@@ -1,6 +1,6 @@
 -- The giant switches of a plan where each rotation has its own key: their table, what the loop over them asks, and the answer.
 -- Assumes nothing.
-use Rattle.std.proofs.Common.{◌≡◌, ℕ, zero, suc, ◌+◌, ◌-◌, ◌*◌, ◌≤◌, List, ◌∷◌, length, take, sym, refl, ap, ◌∙◌, le_of_suc-le-suc, not-suc-le-zero, arith}
+use Rattle.std.proofs.Common.{◌≡◌, ℕ, zero, suc, ◌-◌, ◌*◌, ◌≤◌, List, ◌∷◌, length, take, sym, refl, ap, ◌∙◌, le_of_suc-le-suc, not-suc-le-zero, arith}
 use Rattle.ring.specs.Vectors.{tabulate}
 use Rattle.ring.specs.Laws.Vectors.{length_tabulate}
 use Rattle.linear_transformation.specs.declared.LinearTransformationStrategy.{LinearTransformationStrategy}
@@ -64,7 +64,7 @@ module _ (slots : ℕ) (strategy : LinearTransformationStrategy) (ks : List ℕ)
 
     -- what the loop over them asks
     pub turns_of : let gs = plan_giants slots strategy ks in let ws = giant_schedule slots strategy ks in
-        (nodes log : List ℕ) (logged : ℕ) → length gs * slots ≤ length nodes → logged + n ≤ length log
-        → TurnsAsked gs (length gs - length ws) n slots nodes log logged
-    turns_of nodes log logged room log_room =
-        record { inside = omega (arith, giants_fewer); low = giants_below slots (width_of strategy) ks; room = room; log_room = log_room }
+        (nodes : List ℕ) → length gs * slots ≤ length nodes
+        → TurnsAsked gs (length gs - length ws) n slots nodes
+    turns_of nodes room =
+        record { inside = omega (arith, giants_fewer); low = giants_below slots (width_of strategy) ks; room = room }

@@ -7,7 +7,6 @@ use Rattle.ring.specs.Lists.{Rising}
 use Rattle.ring.specs.Refusals.{Range}
 use Rattle.ring.specs.Vectors.{tabulate}
 use Rattle.ring.specs.Laws.Lists.{each_both}
-use Rattle.ring.specs.Laws.Refusals.{inside}
 use Rattle.linear_transformation.specs.declared.LinearTransformationStrategy.{LinearTransformationStrategy}
 use Rattle.linear_transformation.specs.declared.LinearTransformationStrategy.TheVariants.{Bsgs, BsgsPowersOfTwo, Direct}
 use Rattle.linear_transformation.specs.Strategies.{width_outside}
@@ -19,6 +18,7 @@ use Rattle.linear_transformation.specs.Laws.Plans.{width_positive, giants_below,
 use Rattle.linear_transformation.specs.Laws.Runs.{giants_few}
 use Rattle.linear_transformation.specs.Laws.Stored.{tree_bits_low}
 use Rattle.linear_transformation.specs.Laws.Widths.{distinct_planned}
+use Rattle.linear_transformation.proofs.Keyings.{width_range}
 use Rattle.runs.specs.Switches.{tree_schedule, giant_schedule}
 use Rattle.runs.specs.Machines.{vector_at, top_node, answer_of}
 use Rattle.runs.specs.Laws.NodePlaces.{top_place}
@@ -68,11 +68,6 @@ module _ (slots : ℕ) (strategy : LinearTransformationStrategy) (ks : List ℕ)
       let t = plan_tree slots width ks in
       answer_is m buffer
       ∙ by_top slots t.bits t.leaves buffer (rw (length_leaves slots width ks) h) (leaf_low slots width ks 0 h) (tree_rises slots width ks (distinct_planned d width (width_positive strategy w)))
-
-width_range : (strategy : LinearTransformationStrategy) → width_outside strategy ≡ false → Range (width_of strategy)
-width_range (Bsgs width) w = record { low = (inside width w).0; high = (inside width w).1 }
-width_range (BsgsPowersOfTwo width) w = record { low = (inside width w).0; high = (inside width w).1 }
-width_range Direct w = record { low = omega arith; high = omega arith }
 
 -- the first elements, each replaced
 take_table : {A B : Type 0} (f : A → B) (n : ℕ) (xs : List A) (d : A) → n ≤ length xs → tabulate n (λ q. f (get_or xs q d)) ≡ take n (map f xs)

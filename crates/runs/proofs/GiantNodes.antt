@@ -8,7 +8,7 @@ use Rattle.ring.specs.Laws.Searches.{lt_or_ge}
 use Rattle.ring.specs.Laws.Vectors.{length_tabulate, get_or_tabulate, length_in_front, in_front_new, in_front_old, join_tables}
 use Rattle.diagonals.specs.Maps.{start_at}
 use Rattle.ring.specs.Laws.Places.{length_put_at, put_at_before, put_at_new, put_at_behind}
-use Rattle.runs.specs.Steps.Nodes.{PartMade, NodesAsked, node_slot, MadeTo, TileAsked, TileMade, NodesMade}
+use Rattle.runs.specs.Steps.Nodes.{PartMade, first_in, many_in, NodesAsked, node_slot, MadeTo, TileAsked, TileMade, NodesMade}
 
 -- ---- parts of vectors
 
@@ -134,14 +134,14 @@ tile_next slot size p q d =
     (λ (b : p ≤ q). let c : p + 1 ≤ q = omega arith in rw (le-ltb q p b, le-ltb q (p + 1) c))
     (lt_or_ge q p)
 
-module _ (bs gs cuts pairs values input cache : List ℕ) where
+module _ (bs gs : List ℕ) (cuts : List (List ℕ)) (pairs values input cache : List ℕ) where
   abbrev node : ℕ → ℕ → ℕ
   node = node_slot bs gs cuts pairs values input cache
 
   pub record Tiling (slot size : ℕ) (nodes₀ nodes : List ℕ) (at p : ℕ) : Type 0 where
     pub room : p ≤ length gs
     pub len : length nodes ≡ length nodes₀
-    pub at_is : p < length gs → at ≡ start_at pairs (get_or cuts (2 * p) 0)
+    pub at_is : p < length gs → at ≡ start_at pairs (first_in cuts p)
     pub further : (old : List ℕ) → MadeTo node (length gs) (length input) (λ q. slot) old nodes₀ → MadeTo node (length gs) (length input) (tile_to slot size p) old nodes
 
   module _ {slot size : ℕ} {nodes₀ : List ℕ} {count : ℕ} (t : TileAsked bs gs cuts count pairs input cache slot size nodes₀) where
@@ -149,7 +149,7 @@ module _ (bs gs cuts pairs values input cache : List ℕ) where
       pub part_room : p * length input + slot + size ≤ length nodes
       part_room = omega (arith, vector_room p (length gs) (length input) l, t.asked.room, t.inside, n.len)
 
-      pub tiling_more : {g first many end size' : ℕ} → g ≡ get_or gs p 0 → first ≡ get_or cuts (2 * p) 0 → many ≡ get_or cuts (2 * p + 1) 0 → size' ≡ size → {ys : List ℕ} → PartMade bs g first many pairs values input cache slot size' ys end
+      pub tiling_more : {g first many end size' : ℕ} → g ≡ get_or gs p 0 → first ≡ first_in cuts p → many ≡ many_in cuts p → size' ≡ size → {ys : List ℕ} → PartMade bs g first many pairs values input cache slot size' ys end
           → Tiling slot size nodes₀ (take (p * length input + slot) nodes ++ (ys ++ drop (p * length input + slot + size - (p * length input + slot)) (drop (p * length input + slot) nodes))) end (p + 1)
       unfolding put_at in_front
       tiling_more {g} {first} {many} {end} {size'} e f s z {ys} m =

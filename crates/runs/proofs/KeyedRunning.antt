@@ -7,10 +7,10 @@ use Rattle.ring.specs.Refusals.{first_refusal}
 use Rattle.ring.specs.Answers.{judged}
 use Rattle.std.specs.Prelude.{None, Some, Result, Ok, Err, IsOk}
 use Rattle.ring.specs.Vectors.{in_front}
-use Rattle.ring.specs.Laws.Refusals.{first_later, none_holds}
+use Rattle.ring.specs.Laws.Refusals.{first_later, none_holds, still_refused}
 use Rattle.ring.specs.Laws.Answers.{when_ok, when_refused}
 use Rattle.ring.specs.Laws.Vectors.{length_in_front}
-use Rattle.diagonals.specs.Laws.Calls.{still_refused, judged_none, judged_some}
+use Rattle.diagonals.specs.Laws.Calls.{judged_none, judged_some}
 use Rattle.diagonals.specs.Laws.Maps.{length_view}
 use Rattle.linear_transformation.specs.declared.plan.PlanSizes.{PlanSizes}
 use Rattle.linear_transformation.specs.declared.records.PairRecord.{PairRecord}

@@ -5,7 +5,6 @@ pub mod Parts
 pub mod Arounds
 pub mod Copies
 pub mod Adding
-pub mod Putting
 pub mod TwoRuns
 pub mod Babies
 pub mod GiantSums

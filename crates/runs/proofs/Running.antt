@@ -1,11 +1,12 @@
 -- The run by a plan that is written: what its parts ask follows from the plan, and what they leave is the machine's.
 -- Assumes nothing.
-use Rattle.std.proofs.Common.{◌≡◌, ℕ, zero, suc, ◌+◌, ◌-◌, ◌*◌, ◌<◌, ◌≤◌, min, List, [], ◌∷◌, ◌++◌, map, length, take, drop, sym, ap, ◌∙◌, arith, length-take-le, take_all, le-ltb, lt-ltb}
+use Rattle.std.proofs.Common.{◌≡◌, ℕ, zero, suc, ◌+◌, ◌-◌, ◌*◌, ◌<◌, ◌≤◌, min, List, [], ◌∷◌, ◌++◌, map, length, get_or, get_or-take, take, drop, sym, ap, ◌∙◌, arith, length-take-le, take_all, le-ltb, lt-ltb}
 use native.Mathlib.Decide.{dec_lt}
 use Rattle.ring.specs.Slots.{modulus}
 use Rattle.ring.specs.Lists.{join}
 use Rattle.ring.specs.Refusals.{Range}
-use Rattle.ring.specs.Vectors.{in_front, put_at}
+use Rattle.ring.specs.Vectors.{tabulate, in_front, put_at}
+use Rattle.ring.specs.Laws.Vectors.{tabulate_cong}
 use Rattle.diagonals.specs.declared.map.Map.{Map}
 use Rattle.linear_transformation.specs.declared.LinearTransformationStrategy.{LinearTransformationStrategy}
 use Rattle.linear_transformation.specs.Plans.{Distinct, Planned, width_of, plan_pairs}
@@ -28,7 +29,7 @@ use Rattle.runs.specs.Laws.PassSchedules.{baby_count, giant_count}
 use Rattle.runs.specs.Laws.PlanWords.{babies_read, giants_read, pairs_read}
 use Rattle.runs.specs.Laws.Schedules.{plan_babies_front, plan_babies_rise, plan_babies_low}
 use Rattle.runs.specs.Steps.Nodes.{NodesAsked, NodesMade}
-use Rattle.runs.specs.Steps.Surveys.{offsets_in, powers_of, takes, Cut, Sized}
+use Rattle.runs.specs.Steps.Surveys.{offsets_in, powers_of, takes, cut_at, Cut, Sized}
 use Rattle.runs.specs.Steps.Runs.{answer_by, PlanWritten, RunAsked, nodes_in, first_turns, NodesTurned, turned_nodes, GiantsLeft}
 use Rattle.runs.proofs.Entries.{map_range, map_formed, map_few}
 use Rattle.runs.proofs.FromNodes.{nodes_of, nodes_made}
@@ -142,8 +143,8 @@ module _ {r : Run} {plan cache nodes : List ℕ} (d : PlanWritten r plan cache n
   unfolding plan_switches
   all_switches = omega (arith, switches_are, own_are, giant_count slots strategy ks)
 
-  pub turns_told : survey.switches - (survey.babies - 1) ≡ length (giant_schedule slots strategy ks)
-  turns_told = omega (arith, all_switches)
+  pub turns_told : {own : ℕ} → own ≡ survey.babies - 1 → survey.switches - own ≡ length (giant_schedule slots strategy ks)
+  turns_told e = omega (arith, all_switches)
 
   pub some_baby : 1 ≤ survey.babies
   some_baby = omega (arith, babies_are, ap length (plan_babies_front slots range.high range.low strategy ks))
@@ -172,10 +173,16 @@ module _ {r : Run} {plan cache nodes : List ℕ} (d : PlanWritten r plan cache n
         let e : take survey.giants (drop survey.babies plan) ≡ take (length (plan_giants slots strategy ks)) (drop (length (plan_babies slots strategy ks)) plan) = cc (babies_are, giants_are) in
         q.giants_are ∙ e ∙ giants_read slots strategy ks plan d.old_plan d.plan_is
 
-    cuts_cut : p.cuts.now ≡ join (λ c. c.0 ∷ c.1 ∷ []) (plan_pairs slots (width_of strategy) ks)
+    cuts_cut : p.cuts.now ≡ tabulate (length (plan_giants slots strategy ks)) (cut_at (join (λ c. c.0 ∷ c.1 ∷ []) (plan_pairs slots (width_of strategy) ks)))
     cuts_cut =
-        let e : take (2 * survey.giants) (drop (survey.babies + survey.giants) plan) ≡ take (2 * length (plan_giants slots strategy ks)) (drop (length (plan_babies slots strategy ks) + length (plan_giants slots strategy ks)) plan) = cc (babies_are, giants_are) in
-        q.cuts_are ∙ e ∙ pairs_read slots strategy ks plan d.old_plan d.plan_is
+        let e : tabulate survey.giants (cut_at (drop (survey.babies + survey.giants) plan)) ≡ tabulate (length (plan_giants slots strategy ks)) (cut_at (drop (length (plan_babies slots strategy ks) + length (plan_giants slots strategy ks)) plan)) = cc (babies_are, giants_are) in
+        q.cuts_are ∙ e ∙ tabulate_cong (length (plan_giants slots strategy ks)) _ _ same
+      where
+        word : (j : ℕ) → j < 2 * length (plan_giants slots strategy ks) → get_or (drop (length (plan_babies slots strategy ks) + length (plan_giants slots strategy ks)) plan) j 0 ≡ get_or (join (λ c. c.0 ∷ c.1 ∷ []) (plan_pairs slots (width_of strategy) ks)) j 0
+        word j h = sym (get_or-take (2 * length (plan_giants slots strategy ks)) _ j 0 h) ∙ ap (λ (x : List ℕ). get_or x j 0) (pairs_read slots strategy ks plan d.old_plan d.plan_is)
+
+        same : (i : ℕ) → i < length (plan_giants slots strategy ks) → cut_at (drop (length (plan_babies slots strategy ks) + length (plan_giants slots strategy ks)) plan) i ≡ cut_at (join (λ c. c.0 ∷ c.1 ∷ []) (plan_pairs slots (width_of strategy) ks)) i
+        same i l = cc (word (2 * i) (omega arith), word (2 * i + 1) (omega arith))
 
   -- ---- the nodes
 
@@ -207,7 +214,7 @@ module _ {r : Run} {w : Words} (a : RunAsked r w) where
   abbrev own : ℕ
   own = r.survey.babies - 1
 
-  pub turning_asked : {p : Parts} → Cut r.survey w.plan.now p → {made : ℕ} → own + made ≤ r.survey.switches → Turning r.asked.strategy made all_slots all_offsets p.giants.now w.nodes.now w.log.now own
+  pub turning_asked : {p : Parts} → Cut r.survey w.plan.now p → {made : ℕ} → own + made ≤ r.survey.switches → Turning r.asked.strategy made all_slots all_offsets p.giants.now w.nodes.now
   turning_asked q l =
       let d = a.written in
       record {
@@ -217,12 +224,11 @@ module _ {r : Run} {w : Words} (a : RunAsked r w) where
         giants_are = giants_cut d q;
         few = omega (arith, all_switches d);
         room = rw (giants_cut d q) (roomy d);
-        log_room = omega (arith, a.log_room);
       }
 
-  module _ {made : List ℕ} (k : made ≡ nodes_in r w.cache.now w.nodes.now) (len : length made ≡ length w.nodes.now) (n : ℕ) (from : own ≤ n) {limit : ℕ} (e : limit ≡ min n r.survey.switches) {w₁ : Words} (t : NodesTurned r (limit - own) (holding w w.plan.now w.cache.now made w.log.now w.out.now) w₁) where
-    scheduled : first_turns r (limit - own) ≡ first_turns r (n - own)
-    scheduled = take_least turns (n - own) (limit - own) (omega (arith, all_switches a.written))
+  module _ {made : List ℕ} (k : made ≡ nodes_in r w.cache.now w.nodes.now) (len : length made ≡ length w.nodes.now) (n : ℕ) (from : own ≤ n) {turned : ℕ} (e : turned ≡ min n r.survey.switches - own) {w₁ : Words} (t : NodesTurned r turned (holding w w.plan.now w.cache.now made w.log.now w.out.now) w₁) where
+    scheduled : first_turns r turned ≡ first_turns r (n - own)
+    scheduled = take_least turns (n - own) turned (omega (arith, all_switches a.written))
 
     turned_are : w₁.nodes.now ≡ turned_nodes r n w.cache.now w.nodes.now
     turned_are = t.turned ∙ rw (scheduled, k)

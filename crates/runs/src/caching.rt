@@ -17,6 +17,8 @@ fn place_of(babies: &[u32], baby: u32) -> usize
 }
 
 // The input rotated by a baby: for 0 the input itself, else the baby's vector of the cache.
+// Kept: here, in `baby_switch` and in `make_babies` babies, powers and input go one by one. As methods of a
+// struct of the three, which the nodes then held, a keyed run of 511 diagonals of 256 took 38 ms and not 35.
 pub(crate) fn rotated_input<'a>(
     babies: &[u32],
     baby: u32,
@@ -37,7 +39,6 @@ pub(crate) fn rotated_input<'a>(
 
 // The rotation that makes a baby: the baby itself, and with powers of two the top bit of its multiple
 // of the step.
-// Kept: no conversion: a shift to the top bit.
 fn turn_of(baby: u32, powers: Option<Powers>) -> u32
     requires { Turnable baby powers }
     ensures { TurnIs baby powers result }

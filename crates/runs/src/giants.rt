@@ -1,6 +1,6 @@
 // The giant switches: per rotation each giant's node is rotated in its place; with powers of two the
 // nodes of the tree are joined in pairs, level after level.
-ghost use Rattle.std.specs.Prelude.{◌≡◌, ◌+◌, ◌<◌, ◌≤◌, length};
+ghost use Rattle.std.specs.Prelude.{◌≡◌, ◌+◌, ◌<◌, length};
 ghost use Rattle.linear_transformation.specs.Digits.{level_rotation};
 ghost use Rattle.runs.specs.Switches.{node_place};
 ghost use Rattle.runs.specs.Steps.Giants.{TurnsAsked, GiantsTurned, leaf_or_zero, leaves_of, NodeAsked, node_at, starts_pair, has_even, PlaceAsked, PairAsked, PairJoined, PairsAsked, PairsJoined};
@@ -8,30 +8,28 @@ ghost use Rattle.runs.specs.Steps.Giants.{TurnsAsked, GiantsTurned, leaf_or_zero
 use crate::tree::Tree;
 use crate::turning::{add_turned, rotate_at};
 
-// Per rotation: the n giants from place `start` on.
-// Kept: nodes, log and the place in it go one by one, here and in `join_pairs`: each loop lends the nodes
-// on alone, so a struct of the three is no plainer.
+// Per rotation: as many giants as the log has words, from place `start` on.
 pub(crate) fn turn_giants(
     giants: &[u32],
     start: usize,
-    n: usize,
     slots: usize,
     nodes: &mut [u64],
     log: &mut [u32],
-    logged: usize,
 )
-    requires { TurnsAsked giants.now start n slots nodes.old log.old logged }
-    ensures { GiantsTurned giants.now start n slots nodes.old nodes.new log.old log.new logged }
+    requires { TurnsAsked giants.now start (length log.old) slots nodes.old }
+    ensures { GiantsTurned giants.now start (length log.old) slots nodes.old nodes.new log.new }
 {
-    for (p, &g) in giants[start..start + n].iter().enumerate() {
+    let turned = &giants[start..start + log.len()];
+    log.copy_from_slice(turned);
+    for (p, &g) in turned.iter().enumerate() {
         rotate_at(nodes, slots, start + p, g as usize);
-        log[logged + p] = g;
     }
 }
 
 impl Tree<'_> {
     // The leaf of a number; 0 where it is no giant.
-    // Kept: no conversion: a digit, reduced.
+    // Kept: the arm of the refusal. With `unwrap` this asks for a giant, and `place_of` hands it to a search as
+    // a closure, whose goal `partition_point-requires` is about all numbers, so it does not close.
     fn leaf_of(&self, giant: u32) -> u32
         ensures { result ≡ leaf_or_zero self.now giant }
     {
@@ -42,7 +40,6 @@ impl Tree<'_> {
     }
 
     // Where the vector of a node stands: at the first giant whose leaf is under it.
-    // Kept: no conversion: a search.
     fn place_of(&self, level: usize, node: u32) -> usize
         requires { NodeAsked self.now level node }
         ensures { result ≡ node_place (leaves_of self.now) level node }
@@ -53,8 +50,9 @@ impl Tree<'_> {
     }
 
     // The node of a level above the giant at a place.
-    // Kept: here and in `starts_pair` and `has_even` level and place are asked to be in range. A struct of the
-    // two with these as ghost fields would be made anew for the place before, which both of these look at.
+    // Kept: level and place are two numbers that are asked to be in range, here, in `starts_pair` and in
+    // `has_even`. As a struct with these facts as ghost fields each of those two would make a second one, for
+    // the place before, and prove its facts anew, which is no plainer.
     fn node_at(&self, level: usize, place: usize) -> u32
         requires { PlaceAsked self.now level place }
         ensures { result ≡ node_at (leaves_of self.now) level place }
@@ -81,8 +79,7 @@ impl Tree<'_> {
         place != 0 && self.node_at(level, place - 1) + 1 == self.node_at(level, place)
     }
 
-    // The rotation of a level.
-    // Kept: no conversion: a call, whose answer the log holds in 32 bits.
+    // The rotation of a level, in 32 bits as the log holds it.
     fn turn_of(&self, level: usize) -> u32
         requires { level < self.now.bits }
         ensures { result ≡ (level_rotation self.now.slots self.now.width self.now.bits level).0 }
@@ -111,21 +108,20 @@ impl Tree<'_> {
         turn
     }
 
-    // The first n pairs of all levels, in a walk over the places of each level.
-    pub(crate) fn join_pairs(&self, n: usize, nodes: &mut [u64], log: &mut [u32], logged: usize)
-        requires pairs_asked { PairsAsked self.now n (length nodes.old) }
-        requires n_in_bounds { logged + n ≤ length log.old }
-        ensures { PairsJoined self.now n nodes.old nodes.new log.old log.new logged }
+    // As many pairs as the log has words, the first of all levels, in a walk over the places of each level.
+    pub(crate) fn join_pairs(&self, nodes: &mut [u64], log: &mut [u32])
+        requires { PairsAsked self.now (length log.old) (length nodes.old) }
+        ensures { PairsJoined self.now (length log.old) nodes.old nodes.new log.new }
     {
         let mut q = 0;
         let mut at = 0;
-        // Kept: the walk ends with the n-th pair, not with the places, so no range is plainer.
-        while q < n {
+        // Kept: the walk ends with the last word of the log, not with the places, so no range is plainer.
+        while q < log.len() {
             let level = at / self.giants.len();
             let place = at % self.giants.len();
             if self.starts_pair(level, place) {
                 let turn = self.join_pair(level, place, nodes);
-                log[logged + q] = turn;
+                log[q] = turn;
                 q += 1;
             }
             at += 1;

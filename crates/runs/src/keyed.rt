@@ -48,6 +48,7 @@ fn run_listed(
 
 // The keyed run but for the pair records, of which `room` are lent. A short list of offsets costs little
 // to clear, so few diagonals have one of their own.
+// Kept: there is no heap memory, so both lists have a fixed length.
 fn run_keyed(
     asked: &Asked<'_>,
     n: u64,
@@ -68,6 +69,7 @@ fn run_keyed(
 // Refuses with 1 or 2 a map, with 3 a strategy's width, with 7 an input that is not slots long, with 11 a
 // key rotation of the plan that is not on the held list, and with 12 an output that is shorter than its
 // whole result; then every word and every record is as it was.
+// Kept: the parts of the map and of what is lent one by one, as C lends them.
 pub fn evaluate_keyed(
     slots: usize,
     count: usize,

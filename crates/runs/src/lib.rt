@@ -38,7 +38,7 @@ fn add_diagonal(period: &[u64], k: usize, input: &[u64], table: &mut [u64], out:
 
 // The map times the input. A larger table is no faster at 65,536 slots, and a small map pays for
 // clearing it.
-// Kept: there is no heap, so the table has a fixed length.
+// Kept: there is no heap memory, so the table has a fixed length.
 fn multiply(map: &Map<'_, '_>, input: &[u64], out: &mut [u64])
     requires input_len { length input.now ≡ map.now.slots }
     requires out_len { length out.old ≡ map.now.slots }
@@ -57,6 +57,7 @@ fn multiply(map: &Map<'_, '_>, input: &[u64], out: &mut [u64])
 // The product of a map and an input into the first slots words of out, the same whichever the
 // strategy. Refuses with 1 or 2 a map, with 3 a strategy's width, with 7 an input that is not slots
 // long and with 12 an out that is shorter than slots.
+// Kept: the parts of the map one by one, as C lends them.
 pub fn evaluate(
     slots: usize,
     count: usize,

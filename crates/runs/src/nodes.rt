@@ -9,11 +9,11 @@ use diagonals::Map;
 
 // What the nodes are made of: the plan's parts, the map, the input and the cache.
 #[derive(Clone, Copy)]
-pub(crate) struct Sums<'a> {
-    pub(crate) parts: Parts<'a>,
-    pub(crate) map: Map<'a, 'a>,
-    pub(crate) input: &'a [u64],
-    pub(crate) cache: &'a [u64],
+pub(crate) struct Sums<'p, 'm, 'c> {
+    pub(crate) parts: Parts<'p>,
+    pub(crate) map: Map<'m, 'm>,
+    pub(crate) input: &'m [u64],
+    pub(crate) cache: &'c [u64],
     ghost whole: { length input.now ≡ map.slots },
 }
 
@@ -28,13 +28,13 @@ fn tile_of(values: usize) -> usize
     65536
 }
 
-impl Sums<'_> {
+impl Sums<'_, '_, '_> {
     ghost use Rattle.runs.specs.Steps.Nodes.{GiantOf, PartAsked, PartOf, NodesOf, TileOf, TileMadeOf, NodesMadeOf};
 
     // A part of a giant's node, from slot `slot` on: at each slot s the sum over n diagonals from the
     // first on, whose values stand from `start` on, of the rotated input at s times the diagonal at
     // s - giant. Gives where the next values start.
-    // Kept: there is no heap, so the table has a fixed length.
+    // Kept: there is no heap memory, so the table has a fixed length.
     fn make_part(
         &self,
         giant: u32,
@@ -77,11 +77,11 @@ impl Sums<'_> {
         let slots = self.input.len();
         let mut values_at = 0;
         for (p, &giant) in self.parts.giants.iter().enumerate() {
-            let first = self.parts.cuts[2 * p] as usize;
-            let n = self.parts.cuts[2 * p + 1] as usize;
+            let [first, n] = self.parts.cuts[p];
             let start = p * slots + slot;
             let end = start + size;
-            values_at = self.make_part(giant, first, n, values_at, slot, &mut nodes[start..end]);
+            let part = &mut nodes[start..end];
+            values_at = self.make_part(giant, first as usize, n as usize, values_at, slot, part);
         }
     }
 
@@ -91,7 +91,7 @@ impl Sums<'_> {
         ensures { NodesMadeOf self.now nodes.old nodes.new }
     {
         let slots = self.input.len();
-        let tile = tile_of(self.map.values.len());
+        let tile = tile_of(self.map.total);
         for slot in (0..slots).step_by(tile) {
             self.make_tile(slot, tile.min(slots - slot), nodes);
         }

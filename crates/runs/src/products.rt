@@ -4,6 +4,8 @@ ghost use Rattle.ring.specs.Vectors.{tabulate};
 ghost use Rattle.runs.specs.Steps.Plain.{Around, around_added};
 
 // Adds to part[j] the period's word at from + j, around it, times vector[j].
+// Kept: a loop over s. With `chunks_mut` and `chunks` the goal `returns` does not close: nothing is known of
+// what part holds once they are walked.
 fn add_around(period: &[u64], from: usize, vector: &[u64], part: &mut [u64])
     requires { Around period.now from vector.now part.old }
     ensures { part.new ≡ tabulate (length part.old) (around_added period.now from vector.now part.old) }

@@ -24,25 +24,8 @@ pub(crate) struct Run<'a> {
 }
 
 impl Run<'_> {
-    ghost use Rattle.runs.specs.Steps.Runs.{Ready, PlanWritten, nodes_in, RunAsked, NodesTurned, GiantsLeft, SameBuffers};
+    ghost use Rattle.runs.specs.Steps.Runs.{Ready, RunAsked, NodesTurned, GiantsLeft, SameBuffers};
     ghost use Rattle.runs.specs.Steps.Ready.{AcceptedLeft, progress_by};
-
-    // The nodes of a written plan, from a full cache.
-    // Kept: plan, cache and nodes one by one. With `Sums` made in `run_giants`, which lends the words' `&mut`
-    // on into a struct, the goal `turn_nodes-requires-clause-run_asked` does not close: nothing is known of
-    // what they hold afterwards.
-    fn make_nodes(&self, plan: &[u32], cache: &[u64], nodes: &mut [u64])
-        requires { PlanWritten self.now plan.now cache.now nodes.old }
-        ensures { nodes.new ≡ nodes_in self.now cache.now nodes.old }
-    {
-        let sums = Sums {
-            parts: self.survey.parts(plan),
-            map: self.asked.map,
-            input: self.asked.input,
-            cache,
-        };
-        sums.make_nodes(nodes);
-    }
 
     // The first `made` of the giant switches, with their rotations in the log behind those of the babies.
     // Per rotation a giant 0, if there is one, stands first and is not turned; with powers of two the
@@ -54,16 +37,16 @@ impl Run<'_> {
         ensures turned { NodesTurned self.now made words.old words.new }
     {
         let survey = self.survey;
-        let own = survey.babies - 1;
+        let own = survey.baby_switches();
         let plan = &mut words.plan[..];
         let nodes = &mut words.nodes[..];
-        let log = &mut words.log[..];
+        let log = &mut words.log[own..own + made];
         let giants = survey.parts(plan).giants;
         let slots = self.asked.map.slots;
         match survey.powers {
             None => {
                 let start = giants.len() - (survey.switches - own);
-                turn_giants(giants, start, made, slots, nodes, log, own);
+                turn_giants(giants, start, slots, nodes, log);
             }
             Some(p) => {
                 let width = width_of(self.asked.strategy);
@@ -73,7 +56,7 @@ impl Run<'_> {
                     slots,
                     bits: p.bits,
                 };
-                tree.join_pairs(made, nodes, log, own);
+                tree.join_pairs(nodes, log);
             }
         }
     }
@@ -90,8 +73,14 @@ impl Run<'_> {
         let plan = &mut words.plan[..];
         let cache = &mut words.cache[..];
         let nodes = &mut words.nodes[..];
-        self.make_nodes(plan, cache, nodes);
-        let own = survey.babies - 1;
+        let sums = Sums {
+            parts: survey.parts(plan),
+            map: self.asked.map,
+            input: self.asked.input,
+            cache,
+        };
+        sums.make_nodes(nodes);
+        let own = survey.baby_switches();
         let made = n.min(survey.switches) - own;
         self.turn_nodes(made, words);
         if n < survey.switches {
@@ -114,7 +103,7 @@ impl Run<'_> {
         let log = &mut words.log[..];
         let survey = self.survey;
         stored_plan(offsets, self.asked.map.slots, self.asked.strategy, plan).unwrap();
-        let own = survey.babies - 1;
+        let own = survey.baby_switches();
         let first = n.min(own);
         let babies = survey.parts(plan).babies;
         make_babies(babies, survey.powers, first, self.asked.input, cache, log);

@@ -1,5 +1,5 @@
 // The survey before a keyed run: what the run by a plan takes, and whether there is room for it.
-ghost use Rattle.std.specs.Prelude.{◌≡◌, ◌+◌, ◌*◌, ◌≤◌, length};
+ghost use Rattle.std.specs.Prelude.{◌≡◌, ◌+◌, ◌-◌, ◌*◌, ◌≤◌, length};
 ghost use Rattle.ring.specs.Refusals.{first_refusal};
 ghost use Rattle.ring.specs.Answers.{judged};
 ghost use Rattle.runs.specs.Steps.Surveys.{powers_by, Cut, SurveyedOf, Sized, survey_room};
@@ -32,7 +32,7 @@ pub(crate) struct Survey {
 pub(crate) struct Parts<'a> {
     pub(crate) babies: &'a [u32],
     pub(crate) giants: &'a [u32],
-    pub(crate) cuts: &'a [u32],
+    pub(crate) cuts: &'a [[u32; 2]],
 }
 
 // What a keyed run of an accepted map is asked, but for the number of its switches.
@@ -54,7 +54,7 @@ pub(crate) struct Words<'a> {
     pub(crate) out: &'a mut [u64],
 }
 
-// Kept: no conversion: the strategy says whether there are powers.
+// The powers, where the strategy has them.
 fn powers_of(strategy: LinearTransformationStrategy, step: u32, bits: u32) -> Option<Powers>
     ensures { result ≡ powers_by strategy step bits }
 {
@@ -65,6 +65,14 @@ fn powers_of(strategy: LinearTransformationStrategy, step: u32, bits: u32) -> Op
 }
 
 impl Survey {
+    // How many switches make babies: one for each but 0.
+    pub(crate) fn baby_switches(&self) -> usize
+        requires { 1 ≤ self.now.babies }
+        ensures { result ≡ self.now.babies - 1 }
+    {
+        self.babies - 1
+    }
+
     // The parts of a plan that takes so much.
     pub(crate) fn parts<'a>(&self, plan: &'a [u32]) -> Parts<'a>
         requires { self.now.babies + 3 * self.now.giants ≤ length plan.now }
@@ -72,7 +80,8 @@ impl Survey {
     {
         let (babies, rest) = plan.split_at(self.babies);
         let (giants, rest) = rest.split_at(self.giants);
-        let cuts = &rest[..2 * self.giants];
+        let (pairs, _) = rest.as_chunks::<2>();
+        let cuts = &pairs[..self.giants];
         Parts {
             babies,
             giants,
@@ -127,7 +136,7 @@ impl Words<'_> {
     {
         if self.plan.len() < survey.babies + 3 * survey.giants + survey.diagonals
             || room < survey.pairs
-            || self.cache.len() < (survey.babies - 1) * slots
+            || self.cache.len() < survey.baby_switches() * slots
             || self.nodes.len() < survey.giants * slots
             || self.log.len() < survey.switches
             || self.out.len() < slots

@@ -5,7 +5,7 @@ ghost use Rattle.sibukyaran.specs.Kinds.{strategy_of, rotations_of};
 
 use linear_transformation::{BsgsRotations, LinearTransformationStrategy};
 
-// Kept: C gives a kind as a number, and every number has an answer, so that there is no error to give.
+// Kept: C gives a strategy as two words, kind and width, so that there is no one value for a `From` to take.
 pub(crate) fn strategy_of(kind: u32, giant_step: usize) -> LinearTransformationStrategy
     ensures { result ≡ strategy_of kind giant_step }
 {
@@ -17,7 +17,7 @@ pub(crate) fn strategy_of(kind: u32, giant_step: usize) -> LinearTransformationS
     }
 }
 
-// Kept: C gives this kind as a number too, and every number has an answer.
+// Kept: C gives rotations as four words, so that there is no one value for a `From` to take.
 pub(crate) fn rotations_of(
     kind: u32,
     baby_step: usize,

@@ -1,5 +1,5 @@
 // The C library: each call of the crates below under a C name (include/sibukyaran.h). An answer
-// comes as its two numbers.
+// comes as a struct of a refusal's number and the values, which are 0 or false where the call is refused.
 #![tactic(auto)]
 
 mod files;

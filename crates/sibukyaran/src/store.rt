@@ -7,6 +7,7 @@ ghost use Rattle.runs.specs.Calls.{Evaluated};
 ghost use Rattle.sibukyaran.specs.Kinds.{strategy_of};
 ghost use Rattle.sibukyaran.specs.Numbers.{told, told_truth, Told, CodeTold, GotInto};
 
+use diagonals::Map;
 use ring::Refusal;
 
 #[unsafe(no_mangle)]
@@ -148,6 +149,7 @@ pub extern "C" fn sibukyaran_evaluate(
 }
 
 // The stretch that `get` hands back, in front of out.
+// Kept: C lends a map as slots, a count and two buffers.
 fn get_into(
     slots: usize,
     count: usize,
@@ -158,8 +160,7 @@ fn get_into(
 ) -> Result<usize, Refusal>
     ensures { GotInto slots count pairs.now values.now index out.old out.new result }
 {
-    diagonals::check_map(slots, count, pairs, values)?;
-    let stretch = diagonals::get(slots, count, pairs, values, index);
+    let stretch = Map::accept(slots, count, pairs, values)?.get(index);
     let n = stretch.len();
     if out.len() < n {
         return Err(Refusal::Room);

@@ -10,19 +10,12 @@ use Rattle.ring.specs.declared.refusal.Refusal.TheVariants.{Room}
 use Rattle.ring.specs.Refusals.{first_refusal, outside}
 use Rattle.ring.specs.Answers.{judged}
 use Rattle.ring.specs.Laws.Vectors.{filled_front}
-use Rattle.ring.specs.Laws.Refusals.{on_accept_accepted, first_refused, first_later, pick_none, either, none_holds}
+use Rattle.ring.specs.Laws.Refusals.{on_accept_accepted, still_refused, first_later, pick_none, either, none_holds}
 use Rattle.ring.specs.Laws.Answers.{answered_accepted, no_refused, when_ok, when_refused}
 use Rattle.diagonals.specs.Maps.{Diagonal, offset_at, start_at, well_formed, pair_words, value_words, pair_room, WellFormed}
 use Rattle.diagonals.specs.Calls.{map_refusals, map_refusal, Judged, MapWritten, indexes_refusal, Indexes, map_room, RoomJudged, SecondWritten, SameParts}
 use Rattle.diagonals.specs.Laws.Maps.{formed_means, offsets_view}
 use Rattle.diagonals.specs.Laws.Words.{means_formed}
-
--- one of the first refusals applies: the further ones do not count
-pub still_refused : (cs ds : List (Bool × Refusal)) {x : Refusal} → first_refusal cs ≡ Some x → first_refusal (cs ++ ds) ≡ Some x
-still_refused cs ds e = first_refused cs ds (λ z. some_none (sym e ∙ z)) ∙ e
-  where
-    some_none : {x : Refusal} → Some x ≡ None → ⊥
-    some_none q = cc
 
 -- what a call that judges tells, by its result
 module _ {e : Option Refusal} {r : Result Unit Refusal} (j : r ≡ judged e) where

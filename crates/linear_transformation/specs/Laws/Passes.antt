@@ -30,7 +30,7 @@ pub record Target (cached : List ℕ) (i k : ℕ) : Type 0 where
   pub nonzero : 1 ≤ k
   pub topped : top_bit k ≡ i
 
-not_zero : (k : ℕ) → not (eqb k 0) ≡ true → 1 ≤ k
+pub not_zero : (k : ℕ) → not (eqb k 0) ≡ true → 1 ≤ k
 not_zero zero h = absurd (true≢false (sym h))
 not_zero (suc k) h = omega arith
 

@@ -35,7 +35,7 @@ use Rattle.ring.specs.Divisors.{gcd_all}
 -- ---- rising offsets
 
 -- each is above the one before it
-neighbours_rise : (ks : List ℕ) → ((t : ℕ) → suc t < length ks → get_or ks t 0 < get_or ks (suc t) 0) → Rising ks
+pub neighbours_rise : (ks : List ℕ) → ((t : ℕ) → suc t < length ks → get_or ks t 0 < get_or ks (suc t) 0) → Rising ks
 neighbours_rise [] h = tt
 neighbours_rise (x ∷ []) h = (tt, tt)
 neighbours_rise (x ∷ y ∷ ys) h =
@@ -43,7 +43,7 @@ neighbours_rise (x ∷ y ∷ ys) h =
     let a : x < y = h 0 (omega arith) in
     ((a, each_then (λ z l. omega arith) ys r.0), r)
 
-places_each : (P : ℕ → Type 0) (ks : List ℕ) → ((t : ℕ) → t < length ks → P (get_or ks t 0)) → Each P ks
+pub places_each : (P : ℕ → Type 0) (ks : List ℕ) → ((t : ℕ) → t < length ks → P (get_or ks t 0)) → Each P ks
 places_each P [] h = tt
 places_each P (k ∷ ks) h = (h 0 (omega arith), places_each P ks (λ t l. h (suc t) (omega arith)))
 
@@ -142,7 +142,7 @@ keyed_each : (P : ℕ → Type 0) (rot : Rot) (ps : List PairRecord) → P rot.0
 keyed_each P rot [] h = tt
 keyed_each P rot (p ∷ ps) h = (h, tt)
 
-some_target : (ts : List ℕ) → non_empty ts ≡ true → (k : ℕ) × (among k ts ≡ true)
+pub some_target : (ts : List ℕ) → non_empty ts ≡ true → (k : ℕ) × (among k ts ≡ true)
 some_target [] h = absurd (true≢false (sym h))
 some_target (t ∷ ts) h = (t, among_head t ts)
 

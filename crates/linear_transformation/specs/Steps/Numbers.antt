@@ -1,18 +1,12 @@
 -- What the private steps that are about numbers alone ask and ensure.
 -- Assumes nothing.
-use Rattle.std.specs.Prelude.{ℕ, ◌≤◌, ◌<◌, ◌≡◌, Result, Ok}
+use Rattle.std.specs.Prelude.{ℕ, ◌≤◌, ◌≡◌, Result, Ok}
 use Rattle.ring.specs.declared.refusal.Refusal.{Refusal}
 use Rattle.ring.specs.Refusals.{first_refusal, Range}
 use Rattle.ring.specs.Answers.{judged}
 use Rattle.linear_transformation.specs.declared.rotations.BsgsRotations.{BsgsRotations}
 use Rattle.linear_transformation.specs.declared.rotations.BsgsRotations.TheVariants.{PerRotation, PowersOfTwo}
 use Rattle.linear_transformation.specs.Listed.{step_refusals}
-
--- what the digit of a rotation asks: a step that is not 0, slots up to 65,536, and a rotation reduced modulo slots
-pub record Digitable (slots step rot : ℕ) : Type 0 where
-  pub positive : 1 ≤ step
-  pub small : slots ≤ 65536
-  pub reduced : rot < slots
 
 -- the numbers of `PowersOfTwo` are in range
 abbrev pub StepsInside : BsgsRotations → Type 0

@@ -12,4 +12,4 @@ unfoldable pub heap_records : ℕ → List Bool → List PairRecord
 heap_records b heap = join (level_pairs heap b) (tabulate b (λ i. i))
 
 abbrev pub records_in : Tree → List PairRecord
-records_in t = heap_records t.bits t.heap.now
+records_in t = heap_records t.bits t.nodes.now

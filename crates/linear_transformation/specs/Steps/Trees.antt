@@ -1,6 +1,6 @@
 -- What the private steps of the tree's calls ask and ensure.
 -- Assumes nothing. The nodes stand in a heap: node n of level i at 2^(b-i) + n, the parent of h at h / 2.
-use Rattle.std.specs.Prelude.{ℕ, suc, ◌+◌, ◌*◌, ◌-◌, ◌%◌, ◌^◌, ◌≤◌, ◌<◌, ◌≡◌, Bool, false, ◌||◌, List, map, ℤ, length, None}
+use Rattle.std.specs.Prelude.{ℕ, suc, ◌+◌, ◌*◌, ◌-◌, ◌%◌, ◌^◌, ◌≤◌, ◌<◌, ◌≡◌, Bool, false, ◌||◌, List, [], ◌∷◌, map, ℤ, length, None}
 use Rattle.std.specs.Int.Signed.{mag}
 use Rattle.ring.specs.Lists.{join, among}
 use Rattle.ring.specs.Marks.{marks}
@@ -15,7 +15,6 @@ use Rattle.linear_transformation.specs.Digits.{rot_of, digit, largest, bits_of, 
 use Rattle.linear_transformation.specs.declared.records.PairRecord.{PairRecord}
 use Rattle.linear_transformation.specs.Trees.{digits_of, leaves_of, there, Level, keyed}
 use Rattle.linear_transformation.specs.Listed.{giant_refusals}
-use Rattle.linear_transformation.specs.Steps.Numbers.{Stepped}
 
 -- ---- refusals
 
@@ -31,10 +30,6 @@ pub record GiantsAccepted (baby_step giant_step slots : ℕ) (gs : List ℤ) (st
   pub giants_are : gs₁ ≡ gs
 
 -- ---- digits and leaves
-
-pub record OneGiant (slots step : ℕ) (z : ℤ) : Type 0 where
-  pub stepped : Stepped slots step
-  pub listed : Listed slots step z
 
 abbrev pub digit_at : ℕ → ℕ → ℤ → Digit
 digit_at slots step z = digit slots step (rot_of slots z)
@@ -54,10 +49,6 @@ pub record BitsAre (x r : ℕ) : Type 0 where
   pub is : (ds : List Digit) → largest ds ≡ x → bits_of ds ≡ r
 
 -- a leaf of b bits
-pub record LeafAsked (slots step bits : ℕ) (z : ℤ) : Type 0 where
-  pub giant : OneGiant slots step z
-  pub small : bits ≤ 16
-
 pub record LeafIs (slots step bits : ℕ) (z : ℤ) (r : ℕ) : Type 0 where
   pub is : r ≡ leaf bits (digit_at slots step z)
   pub low : r < 2 ^ bits
@@ -99,11 +90,19 @@ pub record Planted (slots step : ℕ) (gs : List ℤ) (heap : List Bool) (r : �
 
 -- the tree over giants
 pub record TreeOf (slots step : ℕ) (gs : List ℤ) (t : Tree) : Type 0 where
-  pub step_is : t.step ≡ step
-  pub slots_is : t.slots ≡ slots
-  pub planted : Planted slots step gs t.heap.now t.bits
+  pub step_is : t.steps.step ≡ step
+  pub slots_is : t.steps.slots ≡ slots
+  pub planted : Planted slots step gs t.nodes.now t.bits
 
 -- ---- levels, from the heap alone
+
+-- the k-th two of the level with 2·m places: an even node, and the odd one behind it
+abbrev pub two_at : List Bool → ℕ → ℕ → List Bool
+two_at heap m k = marks heap (2 * (m + k)) ∷ marks heap (2 * (m + k) + 1) ∷ []
+
+-- the nodes of level i of b, in twos
+abbrev pub level_nodes : List Bool → ℕ → ℕ → List (List Bool)
+level_nodes heap b i = tabulate (2 ^ (b - suc i)) (two_at heap (2 ^ (b - suc i)))
 
 -- whether the k-th odd node of the level with 2·m places is there, k from 0 on; and its pair
 abbrev pub odd_at : List Bool → ℕ → ℕ → Bool
@@ -133,25 +132,14 @@ heap_switches b heap n = length (join (level_pairs heap b) (tabulate n (λ i. i)
 
 -- the same of all levels of a tree
 abbrev pub levels_in : Tree → List Level
-levels_in t = heap_levels t.slots t.step t.bits t.heap.now t.bits
+levels_in t = heap_levels t.steps.slots t.steps.step t.bits t.nodes.now t.bits
 
 abbrev pub switches_in : Tree → ℕ
-switches_in t = heap_switches t.bits t.heap.now t.bits
+switches_in t = heap_switches t.bits t.nodes.now t.bits
 
 abbrev pub keys_of : List Level → List ℕ
 keys_of ls = join (λ l. keyed l.rotation l.pairs) ls
 
--- a digit and a step whose product is small
-pub record Turnable (slots step : ℕ) (d : Digit) : Type 0 where
-  pub small : mag d.0 ≤ 65536
-  pub low : step ≤ 65536
-
 pub record LevelDigit (b i : ℕ) (d : Digit) : Type 0 where
   pub is : d ≡ level_digit b i
   pub small : mag d.0 ≤ 65536
-
--- what a level's rotation asks
-pub record LevelAsked (slots step b i : ℕ) : Type 0 where
-  pub stepped : Stepped slots step
-  pub small : b ≤ 16
-  pub low : i < b

@@ -3,7 +3,7 @@
 use Prim.Native.Nat.{ℕ, zero, suc, ◌+◌, ◌*◌, ◌/◌, ◌%◌, ◌^◌, ◌≤◌, ◌<◌}
 use Rattle.std.specs.Prelude.{◌≡◌, List, [], ◌∷◌, ◌++◌, length, take, drop}
 use Rattle.std.proofs.Math.Path.{refl}
-use Rattle.std.proofs.Common.{sym, ap, ◌∙◌, mul-zero, mul-suc, zero-add, add-zero, suc-add, pow-suc, mul_comm, mul_assoc, one-mul, drop-drop, take-add, get_or-append-add}
+use Rattle.std.proofs.Common.{sym, ap, ◌∙◌, mul-zero, mul-suc, zero-add, add-zero, suc-add, pow-suc, mul_comm, mul_assoc, one-mul, drop-drop, take-add, get_or-append-add, get_or-take, get_or-drop}
 use Rattle.std.proofs.Math.Nat.{div-div-eq-div-mul, pow-zero, add-mul-mod_self_left, add-mul-div_left}
 use native.Mathlib.Omega.{arith}
 use Rattle.std.proofs.Math.ListN.{get_or, get_or-append}
@@ -69,6 +69,21 @@ number_four bytes at {i} {j} {k} e f g =
     let two : get_or bytes (suc (suc at)) 0 ≡ get_or bytes j 0 = ap (λ (n : ℕ). get_or bytes n 0) (omega arith) in
     let three : get_or bytes (suc (suc (suc at))) 0 ≡ get_or bytes k 0 = ap (λ (n : ℕ). get_or bytes n 0) (omega arith) in
     omega (arith, one, two, three)
+
+-- ---- a number in a part of a list
+
+pub number_part : (bytes : List ℕ) (n s k at : ℕ) → at + k ≤ n → number_at k (take n (drop s bytes)) at ≡ number_at k bytes (s + at)
+unfolding number_at
+number_part bytes n s zero at h = refl
+number_part bytes n s (suc k) at h =
+    let e : suc (s + at) ≡ s + suc at = omega arith in
+    rw (get_or-take n (drop s bytes) at 0 (omega arith), get_or-drop, number_part bytes n s k (suc at) (omega arith), e) refl
+
+-- of all of its bytes
+pub number_whole : (k : ℕ) (bytes part : List ℕ) (at : ℕ) → part ≡ take k (drop at bytes) → number_at k part 0 ≡ number_at k bytes at
+number_whole k bytes part at e =
+    let z : at + 0 ≡ at = omega arith in
+    rw z at (ap (λ (p : List ℕ). number_at k p 0) e ∙ number_part bytes k at k 0 (omega arith))
 
 -- ---- numbers in lists one after the other
 

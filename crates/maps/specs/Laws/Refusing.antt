@@ -5,10 +5,10 @@ use Rattle.std.proofs.Common.{◌∙◌, refl}
 use Rattle.ring.specs.declared.refusal.Refusal.{Refusal}
 use Rattle.ring.specs.declared.refusal.Refusal.TheVariants.{Shift, Length}
 use Rattle.ring.specs.Refusals.{first_refusal}
-use Rattle.ring.specs.Laws.Refusals.{first_later}
+use Rattle.ring.specs.Laws.Refusals.{first_later, still_refused}
 use Rattle.diagonals.specs.Maps.{Diagonal}
 use Rattle.diagonals.specs.Calls.{map_room}
-use Rattle.diagonals.specs.Laws.Calls.{still_refused, written_refused}
+use Rattle.diagonals.specs.Laws.Calls.{written_refused}
 use Rattle.maps.specs.Readings.{rotate_rows_rep}
 use Rattle.maps.specs.Sums.{left_mul_rep}
 use Rattle.maps.specs.Calls.{tile_refusals, no_matrices, RowsRepWritten, LeftMulRepWritten, TiledWritten}

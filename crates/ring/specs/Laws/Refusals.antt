@@ -1,7 +1,7 @@
 -- Laws of refusals and of what a buffer holds after one.
 -- Assumes nothing.
 use Rattle.std.specs.Prelude.{◌≡◌, ◌≢◌, ℕ, ◌≤◌, Bool, true, false, not, ◌||◌, List, [], ◌∷◌, ◌++◌, nat_lt, Option, None, Some, refl}
-use Rattle.std.proofs.Common.{sym, true≢false, le_refl, ltb-false, le-ltb}
+use Rattle.std.proofs.Common.{sym, ◌∙◌, true≢false, le_refl, ltb-false, le-ltb}
 use Rattle.std.proofs.lemmas.Bool.{not-true}
 use Rattle.ring.specs.Lists.{some, Each}
 use Rattle.ring.specs.declared.refusal.Refusal.{Refusal}
@@ -42,6 +42,10 @@ first_refused (c ∷ cs) ds h = pick_refused c.0 c.1 (first_refusal cs) (first_r
 pub first_later : (cs ds : List (Bool × Refusal)) → first_refusal cs ≡ None → first_refusal (cs ++ ds) ≡ first_refusal ds
 first_later [] ds h = refl
 first_later (c ∷ cs) ds h = pick_later c.0 c.1 (first_refusal cs) (first_refusal (cs ++ ds)) (first_refusal ds) (first_later cs ds) h
+
+-- one of the first applies: the further ones do not count
+pub still_refused : (cs ds : List (Bool × Refusal)) {x : Refusal} → first_refusal cs ≡ Some x → first_refusal (cs ++ ds) ≡ Some x
+still_refused cs ds h = first_refused cs ds (λ q. cc (h, q)) ∙ h
 
 pick_same : (b : Bool) (e : Refusal) (x y : Option Refusal) → x ≡ y → pick b e x ≡ pick b e y
 pick_same b e x y h = rw h

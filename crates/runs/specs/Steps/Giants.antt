@@ -6,7 +6,7 @@ use Rattle.ring.specs.Lists.{Each}
 use Rattle.ring.specs.Refusals.{on_accept}
 use Rattle.ring.specs.Searches.{below}
 use Rattle.ring.specs.Residues.{residue_of}
-use Rattle.ring.specs.Vectors.{tabulate, put_at}
+use Rattle.ring.specs.Vectors.{tabulate}
 use Rattle.linear_transformation.specs.Digits.{digit, rot_of, level_rotation}
 use Rattle.linear_transformation.specs.Calls.{digit_refusal}
 use Rattle.runs.specs.declared.tree.Tree.{Tree}
@@ -22,15 +22,14 @@ use Rattle.runs.specs.Steps.Keyed.{nodes_by}
 abbrev pub turn_at : List ℕ → ℕ → ℕ → Switch
 turn_at gs start p = giant (start + p) (slice_index gs (start + p))
 
-pub record TurnsAsked (gs : List ℕ) (start n slots : ℕ) (nodes log : List ℕ) (logged : ℕ) : Type 0 where
+pub record TurnsAsked (gs : List ℕ) (start n slots : ℕ) (nodes : List ℕ) : Type 0 where
   pub inside : start + n ≤ length gs
   pub low : Each (λ g. g < slots) gs
   pub room : length gs * slots ≤ length nodes
-  pub log_room : logged + n ≤ length log
 
-pub record GiantsTurned (gs : List ℕ) (start n slots : ℕ) (nodes nodes' log log' : List ℕ) (logged : ℕ) : Type 0 where
+pub record GiantsTurned (gs : List ℕ) (start n slots : ℕ) (nodes nodes' log : List ℕ) : Type 0 where
   pub turned : nodes' ≡ nodes_by modulus slots nodes (tabulate n (turn_at gs start))
-  pub logs : log' ≡ put_at logged (tabulate n (λ p. rotation_of (turn_at gs start p))) log
+  pub logs : log ≡ tabulate n (λ p. rotation_of (turn_at gs start p))
 
 -- ---- leaves
 
@@ -111,6 +110,6 @@ pub record PairsAsked (t : Tree) (n size-of-nodes : ℕ) : Type 0 where
   pub few : n ≤ length (starts (leaves_of t) (length t.giants.now) t.bits)
   pub room : length t.giants.now * t.slots ≤ size-of-nodes
 
-pub record PairsJoined (t : Tree) (n : ℕ) (nodes nodes' log log' : List ℕ) (logged : ℕ) : Type 0 where
+pub record PairsJoined (t : Tree) (n : ℕ) (nodes nodes' log : List ℕ) : Type 0 where
   pub joined_all : nodes' ≡ nodes_by modulus t.slots nodes (tabulate n (join_at t))
-  pub logs : log' ≡ put_at logged (tabulate n (λ q. rotation_of (join_at t q))) log
+  pub logs : log ≡ tabulate n (λ q. rotation_of (join_at t q))

@@ -1,6 +1,6 @@
 -- What the private steps of the nodes ask and ensure.
 -- Assumes nothing.
-use Rattle.std.specs.Prelude.{◌≡◌, ℕ, ◌+◌, ◌-◌, ◌*◌, ◌<◌, ◌≤◌, true, List, length, slice_index}
+use Rattle.std.specs.Prelude.{◌≡◌, ℕ, ◌+◌, ◌-◌, ◌*◌, ◌<◌, ◌≤◌, true, List, [], length, slice_index, slice_index_or}
 use Rattle.ring.specs.Slots.{modulus}
 use Rattle.ring.specs.Lists.{join, among}
 use Rattle.ring.specs.Vectors.{tabulate, in_front}
@@ -28,18 +28,25 @@ pub record PartMade (bs : List ℕ) (g first n : ℕ) (pairs values input cache 
   pub part_is : part ≡ tabulate size (λ j. node_run modulus (length input) bs pairs values input cache g first n (slot + j))
   pub end : r ≡ start_at pairs (first + n)
 
+-- the cut of the p-th giant: its first diagonal, and how many they are
+abbrev pub first_in : List (List ℕ) → ℕ → ℕ
+first_in cuts p = slice_index_or (slice_index_or cuts p []) 0 0
+
+abbrev pub many_in : List (List ℕ) → ℕ → ℕ
+many_in cuts p = slice_index_or (slice_index_or cuts p []) 1 0
+
 -- all giants: their diagonals stand one after the other
-pub record NodesAsked (bs gs cuts : List ℕ) (count : ℕ) (pairs input cache nodes : List ℕ) : Type 0 where
+pub record NodesAsked (bs gs : List ℕ) (cuts : List (List ℕ)) (count : ℕ) (pairs input cache nodes : List ℕ) : Type 0 where
   pub babies : Babies bs input cache
-  pub sizes : length cuts ≡ 2 * length gs
-  pub runs : (p : ℕ) → p < length gs → GiantRun bs (slice_index gs p) (slice_index cuts (2 * p)) (slice_index cuts (2 * p + 1)) count pairs input
-  pub first : 0 < length gs → slice_index cuts 0 ≡ 0
-  pub next : (p : ℕ) → p + 1 < length gs → slice_index cuts (2 * (p + 1)) ≡ slice_index cuts (2 * p) + slice_index cuts (2 * p + 1)
+  pub sizes : length cuts ≡ length gs
+  pub runs : (p : ℕ) → p < length gs → GiantRun bs (slice_index gs p) (first_in cuts p) (many_in cuts p) count pairs input
+  pub first : 0 < length gs → first_in cuts 0 ≡ 0
+  pub next : (p : ℕ) → p + 1 < length gs → first_in cuts (p + 1) ≡ first_in cuts p + many_in cuts p
   pub room : length gs * length input ≤ length nodes
 
 -- the p-th node at slot s
-abbrev pub node_slot : List ℕ → List ℕ → List ℕ → List ℕ → List ℕ → List ℕ → List ℕ → ℕ → ℕ → ℕ
-node_slot bs gs cuts pairs values input cache p = node_run modulus (length input) bs pairs values input cache (slice_index gs p) (slice_index cuts (2 * p)) (slice_index cuts (2 * p + 1))
+abbrev pub node_slot : List ℕ → List ℕ → List (List ℕ) → List ℕ → List ℕ → List ℕ → List ℕ → ℕ → ℕ → ℕ
+node_slot bs gs cuts pairs values input cache p = node_run modulus (length input) bs pairs values input cache (slice_index gs p) (first_in cuts p) (many_in cuts p)
 
 -- n nodes of which each is made up to a slot; all else is as it was
 pub record MadeTo (f : ℕ → ℕ → ℕ) (n slots : ℕ) (upto : ℕ → ℕ) (old new : List ℕ) : Type 0 where
@@ -48,21 +55,21 @@ pub record MadeTo (f : ℕ → ℕ → ℕ) (n slots : ℕ) (upto : ℕ → ℕ)
   pub todo : (p s : ℕ) → p < n → s < slots → upto p ≤ s → slice_index new (p * slots + s) ≡ slice_index old (p * slots + s)
   pub behind : (i : ℕ) → n * slots ≤ i → slice_index new i ≡ slice_index old i
 
-pub record TileAsked (bs gs cuts : List ℕ) (count : ℕ) (pairs input cache : List ℕ) (slot size : ℕ) (nodes : List ℕ) : Type 0 where
+pub record TileAsked (bs gs : List ℕ) (cuts : List (List ℕ)) (count : ℕ) (pairs input cache : List ℕ) (slot size : ℕ) (nodes : List ℕ) : Type 0 where
   pub asked : NodesAsked bs gs cuts count pairs input cache nodes
   pub inside : slot + size ≤ length input
 
 -- nodes that were made up to a slot are made `size` slots further
-pub record TileMade (bs gs cuts pairs values input cache : List ℕ) (slot size : ℕ) (nodes nodes' : List ℕ) : Type 0 where
+pub record TileMade (bs gs : List ℕ) (cuts : List (List ℕ)) (pairs values input cache : List ℕ) (slot size : ℕ) (nodes nodes' : List ℕ) : Type 0 where
   pub len : length nodes' ≡ length nodes
   pub further : (old : List ℕ) → MadeTo (node_slot bs gs cuts pairs values input cache) (length gs) (length input) (λ p. slot) old nodes
       → MadeTo (node_slot bs gs cuts pairs values input cache) (length gs) (length input) (λ p. slot + size) old nodes'
 
 -- the first n nodes
-abbrev pub first_nodes : List ℕ → List ℕ → List ℕ → List ℕ → List ℕ → List ℕ → List ℕ → ℕ → List ℕ
+abbrev pub first_nodes : List ℕ → List ℕ → List (List ℕ) → List ℕ → List ℕ → List ℕ → List ℕ → ℕ → List ℕ
 first_nodes bs gs cuts pairs values input cache n = join (λ p. tabulate (length input) (node_slot bs gs cuts pairs values input cache p)) (tabulate n (λ p. p))
 
-pub record NodesMade (bs gs cuts pairs values input cache old new : List ℕ) : Type 0 where
+pub record NodesMade (bs gs : List ℕ) (cuts : List (List ℕ)) (pairs values input cache old new : List ℕ) : Type 0 where
   pub nodes : new ≡ in_front (first_nodes bs gs cuts pairs values input cache (length gs)) old
 
 -- ---- the same of what the nodes are made of

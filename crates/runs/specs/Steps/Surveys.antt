@@ -1,7 +1,7 @@
 -- What the keyed run's survey, the cut of its plan and its test of room ask and ensure.
 -- Assumes nothing.
-use Rattle.std.specs.Prelude.{◌≡◌, ℕ, ◌+◌, ◌-◌, ◌*◌, ◌≤◌, Bool, false, not, List, [], ◌∷◌, length, take, drop, ◌==◌, nat_lt, Option, None, Some, Result}
-use Rattle.ring.specs.Vectors.{in_front}
+use Rattle.std.specs.Prelude.{◌≡◌, ℕ, ◌+◌, ◌-◌, ◌*◌, ◌≤◌, Bool, false, not, List, [], ◌∷◌, length, take, drop, slice_index, ◌==◌, nat_lt, Option, None, Some, Result}
+use Rattle.ring.specs.Vectors.{tabulate, in_front}
 use Rattle.ring.specs.declared.refusal.Refusal.{Refusal}
 use Rattle.ring.specs.declared.refusal.Refusal.TheVariants.{OutOfRange, Length, Key, Room}
 use Rattle.ring.specs.Refusals.{first_refusal}
@@ -75,11 +75,15 @@ pub record Surveyed (slots count : ℕ) (ks input : List ℕ) (strategy : Linear
 abbrev pub SurveyedOf : Asked → List ℕ → List ℕ → Result Survey Refusal → Type 0
 SurveyedOf a old new r = Surveyed a.map.slots a.map.count (offsets_in a.map) a.input.now a.strategy a.held.now old new r
 
+-- the p-th pair of words
+abbrev pub cut_at : List ℕ → ℕ → List ℕ
+cut_at ws p = slice_index ws (2 * p) ∷ slice_index ws (2 * p + 1) ∷ []
+
 -- the words of a plan that takes so much, cut
 pub record Cut (s : Survey) (plan : List ℕ) (p : Parts) : Type 0 where
   pub babies_are : p.babies.now ≡ take s.babies plan
   pub giants_are : p.giants.now ≡ take s.giants (drop s.babies plan)
-  pub cuts_are : p.cuts.now ≡ take (2 * s.giants) (drop (s.babies + s.giants) plan)
+  pub cuts_are : p.cuts.now ≡ tabulate s.giants (cut_at (drop (s.babies + s.giants) plan))
 
 -- ---- room
 

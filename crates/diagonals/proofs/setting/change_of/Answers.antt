@@ -1,13 +1,8 @@
 -- `diagonals::setting::change_of` meets its contract. Assumes nothing.
-use Rattle.std.proofs.Common.{refl, arith}
-use Rattle.diagonals.specs.Laws.Changes.{place_order, start_within}
-use Rattle.diagonals.proofs.Chunks.{start_first}
+use Rattle.std.proofs.Common.{arith}
+use Rattle.diagonals.specs.Laws.Changes.{start_within}
 use Rattle.diagonals.proofs.Deciding.{few_pairs, few_values}
 use Rattle.diagonals.proofs.setting.change_of.Goals as goal
-
-pub values_between-requires : goal.values_between-requires
-values_between-requires c =
-    record { order = place_order c.place_of-index.ensures c.place_of-behind.ensures; inside = c.place_of-behind.ensures.inside }
 
 pub overflow_add-from : goal.overflow_add-from
 overflow_add-from c =
@@ -36,16 +31,3 @@ pub overflow_add-result-4 : goal.overflow_add-result-4
 overflow_add-result-4 c =
     let m = c.args.map.now in
     record { fits = omega (arith, c.values_between-start.ensures, c.values_between.ensures, start_within c.place_of-index.ensures, m.total_is, few_values m.slots m.count m.pairs.now m.values.now m.formed, c.requires.len_bound, c.well_formed) }
-
-pub returns : goal.returns
-returns c =
-    let start = start_first _ _ c.values_between-start.ensures in
-    record {
-      here = c.place_of-index.ensures;
-      above = c.place_of-behind.ensures;
-      start_is = start;
-      from_is = omega (arith, start, c.values_between.ensures);
-      end_is = c.args.map.now.total_is;
-      pairs_is = refl;
-      values_is = refl;
-    }

@@ -8,5 +8,5 @@ use Rattle.linear_transformation.proofs.keys.baby_step.Goals as goal
 
 pub returns : goal.returns
 returns c =
-    let a = accepted c.in_ok-sorted.sorted in
-    count_later c.in_ok-sorted.ensures (λ n s ds. baby_step n (width_of s) ds) (part_step a.slots_in_fact a.planned c.baby_step.ensures)
+    let a = accepted c.sort-sorted.result in
+    count_later c.sort-sorted.ensures (λ n s ds. baby_step n (width_of s) ds) (part_step a.slots_in_fact a.planned c.baby_step.ensures)

@@ -5,4 +5,4 @@ use Rattle.linear_transformation.proofs.keys.plan_key_switches.Goals as goal
 
 pub returns : goal.returns
 unfolding plan_switches
-returns c = count_later c.in_ok-sorted.ensures plan_switches (rw (c.baby_switches.ensures.are, c.giant_switches.ensures.are))
+returns c = count_later c.sort-sorted.ensures plan_switches (rw (c.baby_switches.ensures.are, c.giant_switches.ensures.are))

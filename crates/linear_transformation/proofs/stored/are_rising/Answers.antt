@@ -1,14 +1,17 @@
 -- `linear_transformation::stored::are_rising` meets its contract. Assumes nothing.
-use Rattle.std.proofs.Common.{rules, arith}
-use Rattle.linear_transformation.proofs.Storings.{ascending_low, ascending_high, ascending_done}
+use Rattle.std.proofs.Common.{ltb, length, ◌-◌, arith, rules}
+use Rattle.std.proofs.lemmas.Fn.{always_returns_same}
+use Rattle.linear_transformation.proofs.Storings.{falls, none_rises, last_decides}
 use Rattle.linear_transformation.proofs.stored.are_rising.Goals as goal
-use Rattle.linear_transformation.proofs.stored.are_rising.Goals.{then-k-next-via-then-k-next, then-k-next-via-else-k-next+then-slots-k}
 
-pub returns-then-k-next : goal.returns-then-k-next
-returns-then-k-next c = elim c.then-k-next.branch [
-  | then-k-next-via-then-k-next w ↦ ascending_low c.loop-offset.invariant c.loop-offset-test.true w.if-k-next.true
-  | then-k-next-via-else-k-next+then-slots-k w ↦ ascending_high c.loop-offset.invariant c.loop-offset-test.true (omega (arith, w.if-k-next.false)) w.if-slots-k.true
-]
+pub returns-then-not-is_sorted_by : goal.returns-then-not-is_sorted_by
+returns-then-not-is_sorted_by c = falls c.args.slots c.args.offsets.now (c.if-not-is_sorted_by.ensures.cases ltb (always_returns_same _ _ _ (λ a r f k. search rules)))
 
-pub returns : goal.returns
-returns c = search (ascending_done, rules)
+pub returns-in-Some : goal.returns-in-Some
+returns-in-Some c =
+    let rising = c.if-not-is_sorted_by.ensures.cases ltb (always_returns_same _ _ _ (λ a r f k. search rules)) in
+    let i = c.in-Some.ensures.item in
+    last_decides c.args.slots c.args.offsets.now rising (length c.args.offsets.now - 1) (omega (arith, i.3.0)) (i.3.1 0)
+
+pub returns-in-None : goal.returns-in-None
+returns-in-None c = none_rises c.args.slots c.args.offsets.now c.in-None.ensures.item.3

@@ -1,6 +1,6 @@
 -- `linear_transformation::stored::plan_records` meets its contract. Assumes nothing.
-use Rattle.std.proofs.lemmas.Result.{err_from_is_err_and}
 use Rattle.std.proofs.Common.{sym, ◌∙◌, arith}
+use Rattle.linear_transformation.proofs.Judgings.{passed_on}
 use Rattle.linear_transformation.proofs.Planting.{blank}
 use Rattle.linear_transformation.proofs.Storings.{each_written, plan_refused, plan_short, plan_room, plan_told}
 use Rattle.linear_transformation.proofs.stored.plan_records.Goals as goal
@@ -10,8 +10,7 @@ returns-then-turns_each c = each_written c.args.slots c.args.strategy _ _ (sym c
 
 pub returns-in_err-giants : goal.returns-in_err-giants
 returns-in_err-giants c =
-    let p = err_from_is_err_and c.from_residual.result c.from_residual.ensures.1 in
-    rw (p.1, p.2, ← c.part.ensures) (plan_refused c.args.slots c.args.strategy _ _ (sym c.turns_each.ensures ∙ c.if-turns_each.false) c.in_err-giants.ensures)
+    rw (passed_on c.from_residual.ensures.1, ← c.part.ensures) (plan_refused c.args.slots c.args.strategy _ _ (sym c.turns_each.ensures ∙ c.if-turns_each.false) c.in_err-giants.ensures)
 
 pub plant-tree-requires : goal.plant-tree-requires
 plant-tree-requires c = blank

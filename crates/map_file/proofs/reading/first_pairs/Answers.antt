@@ -1,5 +1,5 @@
 -- `map_file::reading::first_pairs` meets its contract. Assumes nothing.
-use Rattle.std.proofs.Common.{◌≡◌, ℕ, zero, suc, ◌+◌, ◌*◌, ◌≤◌, List, ◌∷◌, take, drop, refl, sym, ap, ◌∙◌, arith, length, length-take-le, length-drop, take_all, drop-drop, ◌-◌}
+use Rattle.std.proofs.Common.{◌≡◌, ℕ, zero, suc, ◌+◌, ◌*◌, ◌≤◌, List, ◌∷◌, take, drop, refl, ap, ◌∙◌, arith, length, length-drop, take_all, drop-drop, ◌-◌}
 use Rattle.std.specs.Simd.{first_chunks}
 use Rattle.ring.specs.Vectors.{tabulate}
 use Rattle.ring.specs.Laws.Vectors.{tabulate_cong}
@@ -18,9 +18,6 @@ chunks_are m (suc n) (suc k) xs h =
     further i =
         let e : m + m * i ≡ m * suc i = omega arith in
         rw drop-drop (ap (λ (n : ℕ). drop n xs) e)
-
-pub slice_bounds-result-end : goal.slice_bounds-result-end
-slice_bounds-result-end c = sym (length-take-le _ _ (omega (arith, c.as_chunks.ensures.front_len)))
 
 pub returns : goal.returns
 returns c =

@@ -1,5 +1,7 @@
 -- `map_file::writing::write_accepted` meets its contract. Assumes nothing.
 use Rattle.std.proofs.Common.{sym, arith, length-take-le}
+use Rattle.std.specs.Int.{w32}
+use Rattle.map_file.proofs.Filing.{put_le}
 use Rattle.map_file.proofs.StoredMaps.{stored_of, stored_count, stored_total, file_no_room, file_put}
 use Rattle.map_file.proofs.writing.write_accepted.Goals as goal
 
@@ -21,4 +23,4 @@ slice_bounds-write_values-end c =
 pub returns : goal.returns
 returns c =
     let m = c.args.map.now in
-    file_put _ _ _ _ _ (stored_of m.in_range m.formed m.total_is) c.file_size-size.ensures c.if-out-size.false c.put_u32.ensures c.put_u32-2.ensures c.write_pairs.ensures c.write_values.ensures
+    file_put _ _ _ _ _ (stored_of m.in_range m.formed m.total_is) c.file_size-size.ensures c.if-out-size.false (put_le w32 _ _ _ _ _ c.to_le_bytes.ensures c.put.ensures) (put_le w32 _ _ _ _ _ c.to_le_bytes-2.ensures c.put-2.ensures) c.write_pairs.ensures c.write_values.ensures

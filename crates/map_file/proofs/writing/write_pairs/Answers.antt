@@ -4,6 +4,7 @@ use mathlib.Core.Path.{◌≡◌, refl, sym, ap, ◌∙◌}
 use mathlib.Core.List.{List}
 use native.Mathlib.Omega.{arith}
 use lib.ListN.{length, get_or}
+use Rattle.std.specs.Int.{w32}
 use Rattle.ring.specs.Vectors.{put_at}
 use Rattle.ring.specs.Laws.Vectors.{get_or_tabulate}
 use Rattle.ring.specs.Laws.Places.{put_both}
@@ -13,7 +14,7 @@ use Rattle.diagonals.specs.Laws.Entries.{entries_length, entry_low, entry_offset
 use Rattle.map_file.specs.Files.{bytes_of, pair_bytes}
 use Rattle.map_file.specs.Laws.Numbers.{length_bytes_of}
 use Rattle.map_file.specs.Laws.Telling.{length_pair_bytes}
-use Rattle.map_file.proofs.Filing.{filing_none, filing_more, filing_done}
+use Rattle.map_file.proofs.Filing.{filing_none, filing_more, filing_done, put_le}
 use Rattle.map_file.proofs.writing.write_pairs.Goals as goal
 
 -- the two numbers of the i-th pair, put one behind the other, are its bytes
@@ -28,11 +29,11 @@ pair_put {slots} {count} {i} {at} {to} {x} {y} {pairs} {values} d old w l e room
 pub loop-i-init : goal.loop-i-init
 loop-i-init c = filing_none _ _ _ _
 
-pub put_u32-requires : goal.put_u32-requires
-put_u32-requires c = omega (arith, c.requires, c.loop-i.invariant.len, entry_low _ _ c.entries-offset-items.ensures c.loop-i-test.true)
+pub put-requires : goal.put-requires
+put-requires c = omega (arith, c.requires, c.loop-i.invariant.len, entry_low _ _ c.entries-offset-items.ensures c.loop-i-test.true)
 
-pub put_u32-requires-in-loop-i : goal.put_u32-requires-in-loop-i
-put_u32-requires-in-loop-i c = omega (arith, c.requires, c.loop-i.invariant.len, entry_low _ _ c.entries-offset-items.ensures c.loop-i-test.true)
+pub put-requires-in-loop-i : goal.put-requires-in-loop-i
+put-requires-in-loop-i c = omega (arith, c.requires, c.loop-i.invariant.len, entry_low _ _ c.entries-offset-items.ensures c.loop-i-test.true)
 
 pub loop-i-preserved : goal.loop-i-preserved
 loop-i-preserved c =
@@ -41,7 +42,7 @@ loop-i-preserved c =
     let l = c.loop-i-test.true in
     let n : c.loop-i.i < m.count = entry_low _ _ e l in
     filing_more c.loop-i.invariant 8 length_pair_bytes (diagonal_at m.pairs.now m.values.now c.loop-i.i) refl (omega (arith, length_view m.count m.pairs.now m.values.now, n)) (omega (arith, c.requires, n))
-    (pair_put _ c.loop-i.out (formed_means _ _ _ _ m.formed) (entry_low _ _ e l) refl (omega arith) (entry_offset _ _ e l) (entry_length _ _ e l) c.put_u32.ensures c.put_u32-in-loop-i.ensures)
+    (pair_put _ c.loop-i.out (formed_means _ _ _ _ m.formed) (entry_low _ _ e l) refl (omega arith) (entry_offset _ _ e l) (entry_length _ _ e l) (put_le w32 _ _ _ _ _ c.to_le_bytes.ensures c.put.ensures) (put_le w32 _ _ _ _ _ c.to_le_bytes-in-loop-i.ensures c.put-in-loop-i.ensures))
 
 pub returns : goal.returns
 returns c =

@@ -1,11 +1,8 @@
 -- `maps::building::build` meets its contract. Assumes nothing.
 use Rattle.std.proofs.Common.{◌≡◌, Err, rules}
 use Rattle.diagonals.specs.Laws.Terms.{unmarked}
-use Rattle.maps.proofs.Walks.{table_size, range_of, built_refused, zeros_placed, built}
+use Rattle.maps.proofs.Walks.{table_size, built_refused, zeros_placed, built}
 use Rattle.maps.proofs.building.build.Goals as goal
-
-pub mark-requires-clause-range : goal.mark-requires-clause-range
-mark-requires-clause-range g c = range_of _ _ c.requires
 
 pub mark-requires-clause-unmarked : goal.mark-requires-clause-unmarked
 mark-requires-clause-unmarked g c = unmarked

@@ -11,8 +11,3 @@ pub loop-i-preserved : goal.loop-i-preserved
 loop-i-preserved c =
     let size : c.loop-i.i * c.args.period + c.args.p - c.loop-i.i * c.args.period ≡ c.args.p = omega arith in
     (rw (c.copy_within.ensures.after, size) (row_moved c.requires c.loop-i-test.true c.loop-i.invariant.0), omega arith)
-
-pub returns : goal.returns
-returns c =
-    let end : c.loop-i.i ≡ c.args.count = omega (arith, c.loop-i.invariant.1, c.loop-i-test.false) in
-    rw end at c.loop-i.invariant.0.so_far

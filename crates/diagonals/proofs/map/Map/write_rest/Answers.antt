@@ -1,19 +1,13 @@
 -- `diagonals::map::Map::write_rest` meets its contract. Assumes nothing.
-use Rattle.std.proofs.Common.{◌≡◌, ◌+◌, ◌-◌, ◌++◌, ◌∷◌, [], add-zero, length, arith, rules}
+use Rattle.std.proofs.Common.{◌≡◌, ◌+◌, ◌-◌, ◌++◌, ◌∷◌, [], length, arith, rules}
 use Rattle.std.proofs.lemmas.Iterator.Consumers.{YieldsList-turn, YieldsList-end}
 use Rattle.std.proofs.lemmas.List.{length_push}
-use native.Mathlib.Nat.{sub-zero}
 use Rattle.diagonals.specs.Laws.Maps.{formed_means, values_inside}
 use Rattle.diagonals.specs.Laws.Entries.{entries_length}
 use Rattle.diagonals.proofs.Folding.{range_of}
 use Rattle.diagonals.proofs.Reversing.{road, taken_of, all_taken}
-use Rattle.diagonals.proofs.Turnings.{turnings_none, turnings_fits, turnings_inside, turnings_turning, turnings_room, turnings_more, turnings_done}
+use Rattle.diagonals.proofs.Turnings.{turnings_fits, turnings_inside, turnings_turning, turnings_room, turnings_more, turnings_done}
 use Rattle.diagonals.proofs.map.Map.write_rest.Goals as goal
-
-pub loop-n-init : goal.loop-n-init
-loop-n-init c =
-    let m = c.args.self.now in
-    rw (sub-zero, add-zero) (turnings_none (range_of m.slots m.in_range) (formed_means m.slots m.count m.pairs.now m.values.now m.formed) c.requires m.total_is)
 
 pub slice_bounds-iter-count : goal.slice_bounds-iter-count
 slice_bounds-iter-count c = omega (arith, c.requires.inside, entries_length _ _ c.entries.ensures)

@@ -3,4 +3,4 @@ use Rattle.linear_transformation.proofs.Listings.{Measuring}
 use Rattle.linear_transformation.proofs.giants.GiantList.largest_digit.Given as goal
 
 abbrev pub invariant-loop-giant : goal.invariant-loop-giant
-invariant-loop-giant l = Measuring l.self.slots l.self.step l.self.giants.now l.x l.giant-index
+invariant-loop-giant l = Measuring l.self.steps.slots l.self.steps.step l.self.giants.now l.x l.giant-index

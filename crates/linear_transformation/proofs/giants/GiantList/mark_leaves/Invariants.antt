@@ -3,4 +3,4 @@ use Rattle.linear_transformation.proofs.Listings.{Marking}
 use Rattle.linear_transformation.proofs.giants.GiantList.mark_leaves.Given as goal
 
 abbrev pub invariant-loop-giant : goal.invariant-loop-giant
-invariant-loop-giant l = Marking l.self.slots l.self.step l.bits l.self.giants.now l.heap l.giant-index
+invariant-loop-giant l = Marking l.self.steps.slots l.self.steps.step l.bits l.self.giants.now l.nodes l.giant-index

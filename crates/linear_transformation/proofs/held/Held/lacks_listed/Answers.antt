@@ -6,7 +6,8 @@ use Rattle.std.proofs.lemmas.Iterator.Adapters.{serves_from_places}
 use Rattle.std.proofs.lemmas.Iterator.Search.{any_from_yields_List}
 use Rattle.ring.specs.Marks.{marks}
 use Rattle.ring.specs.Laws.Lists.{each_at}
-use Rattle.linear_transformation.proofs.Missings.{list_some, listed_lacking}
+use Rattle.linear_transformation.proofs.BabyChecks.{any_some}
+use Rattle.linear_transformation.proofs.Missings.{listed_lacking}
 use Rattle.linear_transformation.proofs.held.Held.lacks_listed.Goals as goal
 
 pub any-requires-clause-callable : goal.any-requires-clause-callable
@@ -17,4 +18,4 @@ any-requires-clause-callable c =
 pub returns : goal.returns
 returns c =
     let any : c.any.result ≡ list_any (λ (k : ℕ). not (marks c.args.self.now.seen.now k)) c.args.keys.now = any_from_yields_List (λ (k : ℕ). not (marks c.args.self.now.seen.now k)) _ _ _ c.any.ensures.ran (YieldsList-from_slice c.args.keys.now c.iter.ensures.rest) (λ x b q k. search rules) in
-    listed_lacking c.requires (any ∙ list_some (λ (k : ℕ). not (marks c.args.self.now.seen.now k)) c.args.keys.now)
+    listed_lacking c.requires (any ∙ any_some (λ (k : ℕ). not (marks c.args.self.now.seen.now k)) c.args.keys.now)

@@ -9,7 +9,8 @@ use Rattle.linear_transformation.specs.Plans.{width_of}
 use Rattle.linear_transformation.specs.Steps.Stored.{turns_lacked}
 use Rattle.linear_transformation.proofs.Strategies.{own}
 use Rattle.linear_transformation.proofs.Facts.{accepted, diagonals}
-use Rattle.linear_transformation.proofs.Missings.{list_some, turns_lacking, lacks_each}
+use Rattle.linear_transformation.proofs.BabyChecks.{any_some}
+use Rattle.linear_transformation.proofs.Missings.{turns_lacking, lacks_each}
 use Rattle.linear_transformation.proofs.held.Held.lacks_turn.Goals as goal
 
 pub any-requires-clause-callable : goal.any-requires-clause-callable
@@ -25,4 +26,4 @@ pub returns : goal.returns
 returns c =
     let w = width_of c.args.sorted.now.strategy in
     let any : c.any.result ≡ list_any (turns_lacked w c.args.self.now.seen.now) c.args.sorted.now.ds.now = any_from_yields_List (turns_lacked w c.args.self.now.seen.now) _ _ _ c.any.ensures.ran (YieldsList-from_slice c.args.sorted.now.ds.now c.iter.ensures.rest) (λ x b q k. search rules) in
-    lacks_each (accepted c.args.sorted.now) (own c.requires _ _) (turns_lacking (diagonals c.args.sorted.now) (any ∙ list_some (turns_lacked w c.args.self.now.seen.now) c.args.sorted.now.ds.now))
+    lacks_each (accepted c.args.sorted.now) (own c.requires _ _) (turns_lacking (diagonals c.args.sorted.now) (any ∙ any_some (turns_lacked w c.args.self.now.seen.now) c.args.sorted.now.ds.now))

@@ -11,7 +11,7 @@ loop-run-init c =
     (g.0, rw g.1 (topping_none _ _ _))
 
 pub digit_at-requires : goal.digit_at-requires
-digit_at-requires c = rw c.width-width.ensures (plan_giant (sizable c.args.self.now) (run_inside c.loop-run.invariant.0.2 c.in-Some.ensures.steps) (run_now c.loop-run.invariant.0.2 c.in-Some.ensures.steps))
+digit_at-requires c = rw (c.steps-steps.ensures.0, c.steps-steps.ensures.1) (plan_giant (sizable c.args.self.now) (run_inside c.loop-run.invariant.0.2 c.in-Some.ensures.steps) (run_now c.loop-run.invariant.0.2 c.in-Some.ensures.steps))
 
 pub loop-run-preserved : goal.loop-run-preserved
-loop-run-preserved c = (going_on c.loop-run.invariant.0 c.in-Some.ensures.steps, topping_more c.loop-run.invariant.1 (sizable c.args.self.now) (run_inside c.loop-run.invariant.0.2 c.in-Some.ensures.steps) (run_now c.loop-run.invariant.0.2 c.in-Some.ensures.steps) (rw c.width-width.ensures at c.digit_at.ensures) c.magnitude.ensures (search rules))
+loop-run-preserved c = (going_on c.loop-run.invariant.0 c.in-Some.ensures.steps, topping_more c.loop-run.invariant.1 (sizable c.args.self.now) (run_inside c.loop-run.invariant.0.2 c.in-Some.ensures.steps) (run_now c.loop-run.invariant.0.2 c.in-Some.ensures.steps) (rw (c.steps-steps.ensures.0, c.steps-steps.ensures.1) at c.digit_at.ensures) c.magnitude.ensures (search rules))

@@ -9,5 +9,5 @@ use Rattle.linear_transformation.proofs.tree.Tree.keys_count.Goals as goal
 
 pub returns : goal.returns
 returns c =
-    let h : c.count.result ≡ count_by (λ i. not (eqb (length (level_pairs c.args.self.now.heap.now c.args.self.now.bits i)) 0)) (upto c.args.self.now.bits) = search (rules, range_folds, ranges) in
-    h ∙ counted _ c.args.self.now.bits ∙ keys_counted c.args.self.now.slots c.args.self.now.step c.args.self.now.bits c.args.self.now.heap.now c.args.self.now.bits
+    let h : c.count.result ≡ count_by (λ i. not (eqb (length (level_pairs c.args.self.now.nodes.now c.args.self.now.bits i)) 0)) (upto c.args.self.now.bits) = search (rules, range_folds, ranges) in
+    h ∙ counted _ c.args.self.now.bits ∙ keys_counted c.args.self.now.steps.slots c.args.self.now.steps.step c.args.self.now.bits c.args.self.now.nodes.now c.args.self.now.bits

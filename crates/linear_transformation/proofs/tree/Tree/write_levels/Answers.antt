@@ -9,7 +9,7 @@ pub loop-i-init : goal.loop-i-init
 loop-i-init c = (levelling_none _ _ _ _ _)
 
 pub overflow_cast-levels : goal.overflow_cast-levels
-overflow_cast-levels c = omega (arith, c.level_size.ensures, level_low c.args.self.now.heap.now c.loop-i.i c.args.self.now.low)
+overflow_cast-levels c = omega (arith, c.level_size.ensures, level_low c.args.self.now.nodes.now c.loop-i.i c.args.self.now.low)
 
 pub loop-i-preserved : goal.loop-i-preserved
 loop-i-preserved c = search (levelling_more, rules)

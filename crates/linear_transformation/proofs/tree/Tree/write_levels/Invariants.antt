@@ -3,4 +3,4 @@ use Rattle.linear_transformation.proofs.Writing.{Levelling}
 use Rattle.linear_transformation.proofs.tree.Tree.write_levels.Given as goal
 
 abbrev pub invariant-loop-i : goal.invariant-loop-i
-invariant-loop-i l = Levelling l.self.slots l.self.step l.self.bits l.self.heap.now l.initial.levels l.levels l.at l.i
+invariant-loop-i l = Levelling l.self.steps.slots l.self.steps.step l.self.bits l.self.nodes.now l.initial.levels l.levels l.i

@@ -1,11 +1,12 @@
--- `map_file::reading::check_file` meets its contract. Assumes nothing.
+-- `map_file::reading::File::accept` meets its contract. Assumes nothing.
 use mathlib.Core.Path.{◌≡◌, sym, ap, ◌∙◌}
 use Rattle.std.proofs.Common.{Err, rules}
 use native.Mathlib.Omega.{arith}
 use Rattle.ring.specs.Refusals.{outside}
 use Rattle.map_file.proofs.Judging.{slots_read, count_read, no_file, too_short, too_many, wrong_slots, unformed, formed, wrong_size, few_words, a_file}
-use Rattle.map_file.proofs.reading.check_file.Goals as goal
-use Rattle.map_file.proofs.reading.check_file.Goals.{then-is_outside-via-then-is_outside, then-is_outside-via-else-is_outside+then-bytes-count}
+use Rattle.map_file.specs.Laws.Telling.{length_told}
+use Rattle.map_file.proofs.reading.File.accept.Goals as goal
+use Rattle.map_file.proofs.reading.File.accept.Goals.{then-is_outside-via-then-is_outside, then-is_outside-via-else-is_outside+then-bytes-count}
 
 pub returns-then-bytes-lt8 : goal.returns-then-bytes-lt8
 returns-then-bytes-lt8 c = no_file _ (too_short _ c.if-bytes-lt8.true)
@@ -41,6 +42,13 @@ pub returns-then-bytes-count-2 : goal.returns-then-bytes-count-2
 returns-then-bytes-count-2 c =
     no_file _ (wrong_size _ (count_read _ c.u32_at-count.ensures) (formed _ (slots_read _ c.u32_at-slots.ensures) c.total_in.ensures c.in_ok-total.was).1 (λ e. omega arith))
 
-pub returns : goal.returns
-returns c =
-    a_file _ (slots_read _ c.u32_at-slots.ensures) (count_read _ c.u32_at-count.ensures) (sym c.is_outside.ensures.answer ∙ c.if-is_outside.false) c.total_in.ensures c.in_ok-total.was (omega arith)
+pub invariant_of-result : goal.invariant_of-result
+invariant_of-result c =
+    let slots = slots_read _ c.u32_at-slots.ensures in
+    let count = count_read _ c.u32_at-count.ensures in
+    record {
+      accepted = a_file _ slots count (sym c.is_outside.ensures.answer ∙ c.if-is_outside.false) c.total_in.ensures c.in_ok-total.was (omega arith);
+      slots_is = slots;
+      count_is = count ∙ sym (length_told _);
+      total_is = (formed _ slots c.total_in.ensures c.in_ok-total.was).1;
+    }
