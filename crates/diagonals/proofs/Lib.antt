@@ -1,6 +1,5 @@
 -- Laws that several proofs cite.
 pub mod Chunks
-pub mod Counting
 pub mod Deciding
 pub mod Reversing
 pub mod Zipping

@@ -1,6 +1,7 @@
 -- What two copies within a buffer make: words moved, and new words before them.
 -- Assumes nothing.
-use Rattle.std.proofs.Common.{◌≡◌, ℕ, ◌+◌, ◌-◌, List, ◌++◌, length, take, drop, ◌∙◌, append_assoc, arith, length-append, length-drop, length-take-le, take-take, drop_at}
+use Rattle.std.proofs.Common.{◌≡◌, ℕ, ◌+◌, ◌-◌, List, ◌++◌, length, take, drop, ap, sym, ◌∙◌, append_assoc, arith, length-append, length-drop, length-take-le, take-take, drop_at}
+use Rattle.std.proofs.lemmas.List.{take-append-drop, drop-drop}
 use lib.Seq.{paste, take-append-le, take-length}
 use Rattle.ring.specs.Vectors.{in_front}
 use Rattle.diagonals.specs.Steps.Setting.{Spliceable, spliced}
@@ -17,3 +18,11 @@ splice_done {A} w new {x} {at} {from} {end} h e f =
     let back : drop (at + n) x ≡ moved ++ drop (at + n + (end - from)) w = rw (e, append_assoc) (drop_at (take (at + n) w) _ (at + n) k) in
     let len : length (take at w ++ (new ++ moved)) ≡ at + n + (end - from) = omega (arith, length-append (take at w) (new ++ moved), length-append new moved, length-take-le at w (omega arith)) in
     rw (f, front, back, take-length, len) (simp append_assoc)
+
+-- words that are copied to where they stand
+paste_same : {A : Type 0} (w : List A) (k n : ℕ) → paste w k (drop k w) n ≡ w
+paste_same w k n = rw (append_assoc, ← (drop-drop n k w), take-append-drop n (drop k w)) (take-append-drop k w)
+
+-- the same where the words behind stand there already: none is moved
+pub splice_still : {A : Type 0} (w new : List A) {x y : List A} {at from end : ℕ} → Spliceable at from end (length new) (length w) → at + length new ≡ from → x ≡ w → y ≡ paste x at new (length new) → y ≡ spliced at from end new w
+splice_still w new {x} {y} {at} {from} {end} h s e f = splice_done w new h (e ∙ sym (ap (λ k. paste w (at + length new) (drop k w) (end - from)) (sym s) ∙ paste_same w (at + length new) (end - from))) f

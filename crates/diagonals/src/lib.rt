@@ -54,7 +54,7 @@ fn fill(src: &[u64], from: usize, out: &mut [u64])
     while at < out.len() {
         let m = (src.len() - run).min(out.len() - at);
         let end = at + m;
-        out[at..end].copy_from_slice(&src[run..run + m]);
+        ring::copy_into(&src[run..run + m], &mut out[at..end]);
         at = end;
         run = 0;
     }

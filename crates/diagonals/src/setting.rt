@@ -41,14 +41,16 @@ fn change_of(map: &Map, k: u32, len: usize) -> Change
 }
 
 // New words in place of those from `at` up to `from`; the words from there up to `end` go behind them.
-// All others stay, those behind `end` too.
+// All others stay, those behind `end` too; where they stand there already none is moved.
 fn splice<T: Copy>(words: &mut [T], at: usize, from: usize, end: usize, new: &[T])
     requires { Spliceable at from end (length new.now) (length words.old) }
     ensures { words.new ≡ spliced at from end new.now words.old }
 {
     let behind = at + new.len();
-    words.copy_within(from..end, behind);
-    words[at..behind].copy_from_slice(new);
+    if behind != from {
+        words.copy_within(from..end, behind);
+    }
+    ring::copy_into(new, &mut words[at..behind]);
 }
 
 // One pair in place of those from index up to behind, of which there is at most one.

@@ -5,13 +5,18 @@ use mathlib.Core.Path.{◌≡◌, refl, sym, ap, ap₂, ◌∙◌}
 use mathlib.Core.Bool.{Bool, true, false, not, cond}
 use Rattle.std.specs.List.{count_by}
 use Rattle.std.proofs.lemmas.List.Sums.{sum_by-cons}
+use borrow.Author.Rules.{sfits_of}
+use lib.Signed.{mag}
+use mir.Syntax.{w64}
+use mir.Val.{of_z, to_z}
+use mir.ValLaws.{to_z-of_z}
 use mathlib.Core.List.{List, [], ◌∷◌, ◌++◌, map, map-id, append-nil, append_assoc}
 use native.Mathlib.Nat.{zero-mul, mul-one, le-mul_of_pos_right, div-one}
 use native.Mathlib.Decide.{ℕ_discrete}
 use native.Mathlib.Omega.{arith}
 use borrow.Author.Tests.{eq-eqb, ne_eqb, lt-ltb, le-ltb}
 use lib.Dec.{eqb, ltb}
-use lib.IntN.{ℤ, pos, nat_abs}
+use lib.IntN.{ℤ, pos, negsuc, nat_abs}
 use lib.ListN.{length, get_or, set, take, drop, length-set, length-append, length-map, get_or-map, take-append-drop}
 use lib.Seq.{split_at, length-take-le}
 use Rattle.ring.specs.Lists.{join, Each, among}
@@ -141,17 +146,31 @@ reached_each (PowersOfTwo b g m) h e k = absurd (h b g m refl)
 
 -- ---- the loops over babies
 
+-- whether a number is not 0
+abbrev pub counts : ℤ → Bool
+counts z = not (eqb (nat_abs z) 0)
+
 -- as many as there are numbers that are not 0
-pub nonzeros_counted : (zs : List ℤ) → count_by (λ z. not (eqb (nat_abs z) 0)) zs ≡ length (nonzeros (map nat_abs zs))
+pub nonzeros_counted : (zs : List ℤ) → count_by counts zs ≡ length (nonzeros (map nat_abs zs))
 nonzeros_counted [] = refl
 nonzeros_counted (z ∷ zs) =
-    sum_by-cons (λ z. cond (not (eqb (nat_abs z) 0)) 1 0) z zs
-    ∙ ap₂ ◌+◌ (one (not (eqb (nat_abs z) 0))) (nonzeros_counted zs)
+    sum_by-cons (λ z. cond (counts z) 1 0) z zs
+    ∙ ap₂ ◌+◌ (one (counts z)) (nonzeros_counted zs)
     ∙ sym (length-append (nonzero (nat_abs z)) (nonzeros (map nat_abs zs)))
   where
     one : (b : Bool) → cond b 1 0 ≡ length (only b (nat_abs z))
     one true = refl
     one false = refl
+
+abs_zero : (z : ℤ) → nat_abs z ≡ 0 → of_z w64 z ≡ 0
+abs_zero (pos n) e = ap (λ k. of_z w64 (pos k)) e
+abs_zero (negsuc n) e = absurd (omega (arith, e))
+
+pub counts_yes : (z : ℤ) → (of_z w64 z ≡ 0 → ⊥) → counts z ≡ true
+counts_yes z n = ap not (ne_eqb (nat_abs z) 0 (λ e. n (abs_zero z e)))
+
+pub counts_no : (z : ℤ) → mag z < 2 ^ 63 → of_z w64 z ≡ 0 → counts z ≡ false
+counts_no z g e = ap not (eq-eqb (nat_abs z) 0 (ap nat_abs (sym (to_z-of_z w64 z (sfits_of g)) ∙ ap (to_z w64) e)))
 
 -- the nonzero babies before t stand in front
 module _ {step : ℕ} {bs : List ℤ} {out₀ out : List ℕ} {at t : ℕ} (b : Babies step bs) (s : Sieving nonzero [] (map nat_abs bs) out₀ out at t) (l : t < length bs) where

@@ -97,6 +97,9 @@ module _ {slots step : ℕ} {gs : List ℤ} {t : HeapTree} (o : TreeOf slots ste
   pub levels_of_tree : levels_in t ≡ (list_tree slots step gs).levels
   levels_of_tree = rw (o.slots_is, o.step_is) (tree_levels o.planted)
 
+  pub switches_of_tree : {count : ℕ} → count ≡ switches_in t → count ≡ tree_switches (list_tree slots step gs)
+  switches_of_tree k = k ∙ tree_switches_lem o.planted
+
   pub keys_of_tree : keys_of (levels_in t) ≡ tree_keys (list_tree slots step gs)
   keys_of_tree = rw (o.slots_is, o.step_is) (tree_keys_lem o.planted)
 
@@ -170,9 +173,9 @@ module _ (b g n : ℕ) (gs : List ℤ) (old : List ℕ) where
 
 -- ---- switches
 
-pub switches_right : (b g n : ℕ) (gs : List ℤ) → first_refusal (giant_refusals (PowersOfTwo b g n) gs) ≡ None → {t : HeapTree} {count : ℕ} → TreeOf n g gs t → count ≡ switches_in t
+pub switches_right : (b g n : ℕ) (gs : List ℤ) {step slots : ℕ} {gs' : List ℤ} {count : ℕ} → GiantsAccepted b g n gs step slots gs' → count ≡ tree_switches (list_tree slots step gs')
     → Ok count ≡ answered (first_refusal (giant_refusals (PowersOfTwo b g n) gs)) (tree_switches (list_tree n g gs))
-switches_right b g n gs z o k = rw (z, k, tree_switches_lem o.planted) refl
+switches_right b g n gs a k = rw (a.none, k, a.slots_is, a.step_is, a.giants_are) refl
 
 -- ---- per rotation
 

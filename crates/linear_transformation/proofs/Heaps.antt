@@ -54,6 +54,10 @@ level_counted heap b i {m} q = sym (pairs_length heap m m) ∙ ap (λ (x : ℕ).
 
 -- ---- the nodes of a level in twos
 
+-- whether the odd one of two is there
+abbrev pub has_odd : List Bool → Bool
+has_odd t = get_or t 1 false
+
 -- two nodes further on
 shifted : (a b : Bool) (xs : List Bool) (i : ℕ) → (get_or xs (2 * i) false ∷ get_or xs (2 * i + 1) false ∷ []) ≡ (get_or (a ∷ b ∷ xs) (2 * suc i) false ∷ get_or (a ∷ b ∷ xs) (2 * suc i + 1) false ∷ [])
 shifted a b xs i =
@@ -88,17 +92,17 @@ module _ (heap : List Bool) (m : ℕ) where
       let e : length places / 2 ≡ m = omega (arith, places_length l) in
       ap (λ n. first_chunks 2 n places) e ∙ chunks_are m places (omega (arith, places_length l)) ∙ tabulate_cong m _ _ two_is
 
-  pub twos_counted : (n : ℕ) → count_by (λ (t : List Bool). get_or t 1 false) (tabulate n (two_at heap m)) ≡ length (below (odd_at heap m) n)
+  pub twos_counted : (n : ℕ) → count_by has_odd (tabulate n (two_at heap m)) ≡ length (below (odd_at heap m) n)
   unfolding below
   twos_counted zero = refl
   twos_counted (suc n) =
-      ap (count_by (λ (t : List Bool). get_or t 1 false)) (tabulate_snoc n (two_at heap m))
+      ap (count_by has_odd) (tabulate_snoc n (two_at heap m))
       ∙ sum_by_push (λ (t : List Bool). cond (get_or t 1 false) 1 0) (tabulate n (two_at heap m)) (two_at heap m n)
       ∙ one (odd_at heap m n) refl (twos_counted n)
       ∙ ap (λ k. length (below (odd_at heap m) k)) (add-one n)
     where
-      one : (b : Bool) → odd_at heap m n ≡ b → count_by (λ (t : List Bool). get_or t 1 false) (tabulate n (two_at heap m)) ≡ length (below (odd_at heap m) n)
-          → count_by (λ (t : List Bool). get_or t 1 false) (tabulate n (two_at heap m)) + cond (odd_at heap m n) 1 0 ≡ length (below (odd_at heap m) (n + 1))
+      one : (b : Bool) → odd_at heap m n ≡ b → count_by has_odd (tabulate n (two_at heap m)) ≡ length (below (odd_at heap m) n)
+          → count_by has_odd (tabulate n (two_at heap m)) + cond (odd_at heap m n) 1 0 ≡ length (below (odd_at heap m) (n + 1))
       one true e h = rw e (ap (λ k. k + 1) h ∙ sym (length_below_yes (odd_at heap m) n e))
       one false e h = rw e (add-zero _ ∙ h ∙ sym (ap length (below_no (odd_at heap m) n e)))
 

@@ -25,3 +25,4 @@ pub mod Storings
 pub mod Missings
 pub mod OwnKeys
 pub mod LeafBits
+pub mod Tallies

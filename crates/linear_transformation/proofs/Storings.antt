@@ -1,14 +1,13 @@
 -- The calls about stored offsets: the walk that tests them, refusals, plans and trees.
 -- Assumes nothing.
-use Prim.Native.Nat.{ℕ, suc, ◌+◌, ◌≤◌, ◌<◌}
+use Prim.Native.Nat.{ℕ, zero, suc, ◌+◌, ◌≤◌, ◌<◌}
 use mathlib.Core.Path.{◌≡◌, refl, sym, ap, ◌∙◌, subst}
 use mathlib.Core.Bool.{Bool, true, false, true≢false}
+use Rattle.std.proofs.Common.{◌&&◌, MatchBool}
 use mathlib.Core.List.{List, [], ◌∷◌, ◌++◌}
 use native.Mathlib.Omega.{arith}
-use native.Mathlib.Nat.{le_refl}
 use native.Mathlib.Numerals.{add-one}
-use mathlib.Core.Logic.{⊎_elim}
-use borrow.Author.Tests.{lt-leb, lt-ltb, le-ltb, ltb-true, ltb-false}
+use borrow.Author.Tests.{lt-ltb, le-ltb, ltb-true, leb-true}
 use lib.Dec.{ltb, leb}
 use lib.ListN.{length, get_or}
 use Rattle.ring.specs.Vectors.{in_front}
@@ -16,8 +15,7 @@ use Rattle.std.specs.Prelude.{Option, None, Some, Result, Ok, Err}
 use Rattle.ring.specs.declared.refusal.Refusal.{Refusal}
 use Rattle.ring.specs.declared.refusal.Refusal.TheVariants.{Room}
 use Rattle.ring.specs.Refusals.{first_refusal, outside}
-use Rattle.ring.specs.Lists.{Rising}
-use Rattle.ring.specs.Laws.Searches.{second, lt_or_ge, every_all, every_at, every_fails}
+use Rattle.ring.specs.Laws.Searches.{first, second, every_all, every_at, every_fails}
 use Rattle.ring.specs.Laws.Refusals.{first_later, still_refused}
 use Rattle.linear_transformation.specs.declared.LinearTransformationStrategy.{LinearTransformationStrategy}
 use Rattle.linear_transformation.specs.declared.LinearTransformationStrategy.TheVariants.{Bsgs, BsgsPowersOfTwo, Direct}
@@ -37,7 +35,6 @@ use Rattle.linear_transformation.specs.Steps.Keys.{Sizable, Accepted, giants_of}
 use Rattle.linear_transformation.specs.Steps.Records.{heap_records}
 use Rattle.linear_transformation.specs.Laws.Plans.{width_positive}
 use Rattle.linear_transformation.specs.Laws.Stored.{neighbours_rise, places_each, rise_distinct, distinct_rise}
-use Rattle.linear_transformation.specs.Laws.Runs.{rising_at}
 use Rattle.linear_transformation.specs.Laws.Tables.{agree}
 use Rattle.linear_transformation.proofs.Growth.{sizes, records_refused}
 use Rattle.linear_transformation.proofs.PlanAnswers.{in_range_lem, words_same}
@@ -49,31 +46,42 @@ use Rattle.linear_transformation.specs.Steps.Strategies.{turns_each}
 -- ---- rising offsets
 
 module _ (slots : ℕ) (ks : List ℕ) where
-  -- one is not above the one before it
-  pub falls : (k : ℕ) × (k + 1 < length ks) × ((d : ℕ) → false ≡ ltb (get_or ks k d) (get_or ks (k + 1) d)) → false ≡ offsets_rise slots ks
-  unfolding offsets_rise
-  falls (k, l, e) =
-      let q : ltb (get_or ks k 0) (get_or ks (suc k) 0) ≡ false = ap (λ j. ltb (get_or ks k 0) (get_or ks j 0)) (sym (add-one k)) ∙ sym (e 0) in
-      sym (every_fails (offset_fits slots ks) (length ks) (suc k) (omega (arith, l)) (rw (lt-leb (suc (get_or ks k 0)) (get_or ks (suc k) 0) (omega (arith, ltb-false _ _ q)))))
+  -- the test of an offset and the next one
+  abbrev pub next_fits : ℕ → ℕ → Bool
+  next_fits a b = ltb a b && ltb b slots
+
+  failing : (k : ℕ) → (next_fits (get_or ks k 0) (get_or ks (suc k) 0) ≡ false) → offset_fits slots ks (suc k) ≡ false
+  failing k e = by (offset_fits slots ks (suc k)) refl
+    where
+      by : (b : Bool) → offset_fits slots ks (suc k) ≡ b → offset_fits slots ks (suc k) ≡ false
+      by false q = q
+      by true q =
+          absurd (true≢false (sym (rw (lt-ltb (get_or ks k 0) (get_or ks (suc k) 0) (omega (arith, leb-true (suc (get_or ks k 0)) (get_or ks (suc k) 0) (first (leb (least_at ks (suc k)) (get_or ks (suc k) 0)) _ q))), second (leb (least_at ks (suc k)) (get_or ks (suc k) 0)) _ q) refl) ∙ e))
 
   pub none_rises : length ks ≤ 0 → true ≡ offsets_rise slots ks
   unfolding offsets_rise
   none_rises l = sym (every_all (offset_fits slots ks) (length ks) (λ t h. absurd (omega arith)))
 
-  -- each is above the one before it: then the last decides whether all are below slots
-  module _ (h : (k d : ℕ) → k + 1 < length ks → true ≡ ltb (get_or ks k d) (get_or ks (k + 1) d)) (n : ℕ) (e : n + 1 ≡ length ks) where
-    rises : Rising ks
-    rises = neighbours_rise ks (λ t l. ltb-true _ _ (ap (λ j. ltb (get_or ks t 0) (get_or ks j 0)) (sym (add-one t)) ∙ sym (h t 0 (omega (arith, l)))))
-
-    below_last : (t : ℕ) → t < length ks → get_or ks t 0 ≤ get_or ks n 0
-    below_last t l = ⊎_elim (λ (m : t < n). omega (arith, rising_at ks 0 rises t n m (omega (arith, e)))) (λ (m : n ≤ t). let q : t ≡ n = omega (arith, e) in rw q (le_refl _)) (lt_or_ge t n)
-
-    pub last_decides : {x : ℕ} → x ≡ get_or ks n 0 → ltb x slots ≡ offsets_rise slots ks
+  module _ {x : ℕ} (n : 0 < length ks) (q : x ≡ get_or ks 0 0) where
+    pub first_outside : slots ≤ x → ltb x slots ≡ offsets_rise slots ks
     unfolding offsets_rise
-    last_decides {x} q =
-        agree
-        (λ y. distinct_rise slots ks (record { rises = rises; low = places_each (λ k. k < slots) ks (λ t l. omega (arith, below_last t l, ltb-true x slots y)) }))
-        (λ y. lt-ltb x slots (omega (arith, ltb-true (get_or ks n 0) slots (second (leb (least_at ks n) (get_or ks n 0)) _ (every_at (offset_fits slots ks) (length ks) y n (omega (arith, e)))))))
+    first_outside h = agree (λ y. absurd (omega (arith, h, ltb-true x slots y))) (λ y. lt-ltb x slots (omega (arith, q, ltb-true (get_or ks 0 0) slots (second (leb 0 (get_or ks 0 0)) _ (every_at (offset_fits slots ks) (length ks) y 0 n)))))
+
+    -- the first is below slots, and each next one is above it and below slots
+    low_at : x < slots → ((k d : ℕ) → k + 1 < length ks → true ≡ next_fits (get_or ks k d) (get_or ks (k + 1) d)) → (t : ℕ) → t < length ks → get_or ks t 0 < slots
+    low_at l h zero m = omega (arith, l, q)
+    low_at l h (suc t) m = ltb-true _ _ (ap (λ j. ltb (get_or ks j 0) slots) (sym (add-one t)) ∙ second _ _ (sym (h t 0 (omega (arith, m)))))
+
+    pub next_decides : {r : Bool} → x < slots
+        → MatchBool r ((k d : ℕ) → k + 1 < length ks → true ≡ next_fits (get_or ks k d) (get_or ks (k + 1) d)) ((k : ℕ) × (k + 1 < length ks) × ((d : ℕ) → false ≡ next_fits (get_or ks k d) (get_or ks (k + 1) d)))
+        → r ≡ offsets_rise slots ks
+    unfolding offsets_rise
+    next_decides {r = true} l h =
+        sym (distinct_rise slots ks (record {
+          rises = neighbours_rise ks (λ t m. ltb-true _ _ (ap (λ j. ltb (get_or ks t 0) (get_or ks j 0)) (sym (add-one t)) ∙ first _ _ (sym (h t 0 (omega (arith, m))))));
+          low = places_each (λ k. k < slots) ks (low_at l h);
+        }))
+    next_decides {r = false} l (k, m, e) = sym (every_fails (offset_fits slots ks) (length ks) (suc k) (omega (arith, m)) (failing k (ap (λ j. next_fits (get_or ks k 0) (get_or ks j 0)) (sym (add-one k)) ∙ sym (e 0))))
 
 -- ---- refusals
 

@@ -8,7 +8,8 @@ ghost use Rattle.ring.specs.Vectors.{in_front};
 ghost use Rattle.ring.specs.Refusals.{first_refusal};
 ghost use Rattle.ring.specs.Answers.{answered};
 ghost use Rattle.linear_transformation.specs.declared.rotations.BsgsRotations.TheVariants.{PowersOfTwo};
-ghost use Rattle.linear_transformation.specs.Listed.{giant_refusals, giant_keys_of, giant_switches_of};
+ghost use Rattle.linear_transformation.specs.Trees.{tree_switches};
+ghost use Rattle.linear_transformation.specs.Listed.{giant_refusals, list_tree, giant_keys_of, giant_switches_of};
 ghost use Rattle.linear_transformation.specs.Calls.{ListWritten, TreeWritten};
 ghost use Rattle.linear_transformation.specs.Steps.Trees.{LargestIs, BitsAre, leaves_at, Blank, LeavesMarked, TreeOf, GiantsAccepted};
 
@@ -121,6 +122,18 @@ impl<'a> GiantList<'a> {
             nodes,
         }
     }
+
+    // The number of pairs of the tree. The table of nodes is this function's own, so that a call without a tree clears none.
+    // Not inlined: LLVM then made the table's frame after it had put the list's address into the register that it makes a
+    // frame with, and the list was lost.
+    // Kept: there is no heap memory, so the nodes stand in a table of fixed size.
+    #[inline(never)]
+    fn pairs(&self) -> usize
+        ensures { result ≡ tree_switches (list_tree self.now.steps.slots self.now.steps.step self.now.giants.now) }
+    {
+        let mut nodes = [false; 131072];
+        self.plant(&mut nodes).size()
+    }
 }
 
 // The tree over the giants: b, the number of pairs, and in front of the buffers one word a giant (its
@@ -190,7 +203,6 @@ pub fn giant_key_rotations(
 
 // The number of giant switches: the pairs of all levels, or per rotation the giants that are not 0.
 // Refuses with 1, 3 and 10 as `giant_tree`.
-// Kept: there is no heap memory, so the nodes stand in a table of fixed size.
 pub fn giant_key_switches(rotations: BsgsRotations, giants: &[i64]) -> Result<usize, Refusal>
     ensures { result ≡ answered (first_refusal (giant_refusals rotations giants.now)) (giant_switches_of rotations giants.now) }
 {
@@ -203,6 +215,5 @@ pub fn giant_key_switches(rotations: BsgsRotations, giants: &[i64]) -> Result<us
         return Ok(count_nonzeros(giants));
     };
     let list = GiantList::accept(baby_step, giant_step, slots, giants)?;
-    let mut nodes = [false; 131072];
-    Ok(list.plant(&mut nodes).size())
+    Ok(list.pairs())
 }

@@ -30,7 +30,7 @@ pub(crate) fn climb(size: usize, nodes: &mut [bool; 131072])
     ensures { Climbed size nodes.old nodes.new }
 {
     for h in (1..size).rev() {
-        nodes[h] = nodes[2 * h] || nodes[2 * h + 1];
+        nodes[h] = nodes[2 * h] | nodes[2 * h + 1];
     }
 }
 
@@ -85,15 +85,18 @@ impl Tree<'_> {
     }
 
     // The number of pairs of a level.
-    // Kept: as `level_nodes`.
+    // Kept: as `level_nodes`; the loop, as in `ring::count_marks`.
     fn level_size(&self, level: u32) -> usize
         requires { level < self.now.bits }
         ensures { result ≡ length (level_pairs self.now.nodes.now self.now.bits level) }
     {
-        self.level_nodes(level)
-            .iter()
-            .filter(|&&[_, odd]| odd)
-            .count()
+        let mut count = 0;
+        for &[_, odd] in self.level_nodes(level) {
+            if odd {
+                count += 1;
+            }
+        }
+        count
     }
 
     // The number of pairs of all levels.

@@ -101,17 +101,14 @@ impl<'a> Sorted<'a> {
     }
 }
 
-// Whether every offset is above the one before it, and below slots.
+// Whether every offset is above the one before it, and below slots. The first that is not is the last that is looked at.
 fn are_rising(offsets: &[u32], slots: usize) -> bool
     ensures { result ≡ offsets_rise slots offsets.now }
 {
-    if !offsets.is_sorted_by(|a, b| a < b) {
-        return false;
-    }
-    match offsets.last() {
-        Some(&k) => (k as usize) < slots,
-        None => true,
-    }
+    let Some(&first) = offsets.first() else {
+        return true;
+    };
+    (first as usize) < slots && offsets.is_sorted_by(|&a, &b| a < b && (b as usize) < slots)
 }
 
 // Writes the plan of a stored map's offsets in front of `plan`, as `linear_transform_index` does.

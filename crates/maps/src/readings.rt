@@ -30,7 +30,8 @@ fn entry(there: bool, d: usize, r: usize, c: usize) -> Option<usize>
 }
 
 impl Reads {
-    // The place that output (r, c) reads, if it reads one.
+    // The place that output (r, c) reads, if it reads one. Inlined, since a call would hand the place over in memory.
+    #[inline(always)]
     fn read_at(self, r: usize, c: usize) -> Option<usize>
         requires { Within (2 ^ self.side.log_d) r c }
         ensures { result ≡ place_of (2 ^ self.side.log_d) (reads self.rule (2 ^ self.side.log_d) r c) }
@@ -71,6 +72,7 @@ impl Summands for Reads {
         1
     }
 
+    #[inline(always)]
     fn summand(&self, t: usize, _l: usize) -> Option<Summand> {
         let d = self.side.rows();
         let j = self.read_at(t / d, t % d)?;

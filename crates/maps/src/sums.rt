@@ -101,6 +101,7 @@ impl<'a> Summands for Sums<'a> {
         self.side.rows()
     }
 
+    #[inline(always)]
     fn summand(&self, t: usize, l: usize) -> Option<Summand> {
         let f = self.factors(self.output(t), l);
         Some(Summand {

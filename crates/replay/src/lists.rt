@@ -40,16 +40,16 @@ fn rotate_slots_into(words: &mut Words<'_>, answer: &mut Line) -> Result<(), All
     answer.list(&out)
 }
 
-// Slots, period, np, nv, the lengths of the three lists, the lists.
+// Slots, period, np, nv, the lengths of the three lists, the lists; the last of these is all words that are left.
 fn from_slot_map(words: &mut Words<'_>, answer: &mut Line) -> Result<(), AllocError> {
     let slots = words.size();
     let period = words.size();
     let mut pairs = words.lent(7u32)?;
     let mut values = words.lent(7u64)?;
-    let (ni, nj, nw) = (words.size(), words.size(), words.size());
+    let (ni, nj, _nw) = (words.size(), words.size(), words.size());
     let is = words.narrowed(ni)?;
     let js = words.narrowed(nj)?;
-    let ws = words.list(nw);
+    let ws = words.rest();
     answer.show(diagonals::from_slot_map(slots, period, &is, &js, ws, &mut pairs, &mut values))?;
     answer.list(&pairs)?;
     answer.list(&values)

@@ -19,13 +19,14 @@ pub(crate) enum MapCall {
     WriteFile,
 }
 
-// The map of a call.
+// The map of a call. Its values are all words that are left: only `set` makes a copy, of `room` words.
 // Kept: the library takes these four one by one, as C lends them, so that each call below writes them out.
 #[derive(Drop)]
 pub(crate) struct StoredMap<'a> {
     pub(crate) slots: usize,
     pub(crate) count: usize,
     pub(crate) pairs: Vec<u32>,
+    pub(crate) room: usize,
     pub(crate) values: &'a [u64],
 }
 
@@ -34,13 +35,14 @@ impl<'a> StoredMap<'a> {
         let slots = words.size();
         let count = words.size();
         let np = words.size();
-        let nv = words.size();
+        let room = words.size();
         let pairs = words.narrowed(np)?;
-        let values = words.list(nv);
+        let values = words.rest();
         Ok(StoredMap {
             slots,
             count,
             pairs,
+            room,
             values,
         })
     }
@@ -91,9 +93,13 @@ fn set(words: &mut Words<'_>, answer: &mut Line) -> Result<(), AllocError> {
         slots,
         count,
         mut pairs,
-        values,
+        room,
+        values: own,
     } = StoredMap::read(words)?;
-    let mut values = Vec::from_slice(words.alloc, values)?;
+    let mut values = words.buffer(room, 0u64)?;
+    for (value, &word) in values.iter_mut().zip(own) {
+        *value = word;
+    }
     answer.show(diagonals::set(slots, count, &mut pairs, &mut values, index, new))?;
     answer.list(&pairs)?;
     answer.list(&values)

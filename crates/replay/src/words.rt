@@ -1,6 +1,9 @@
 // The words of a call, read one after the other.
 use std::alloc::{AllocError, Global};
 
+// Of a list that the program copies or lends, it has so many words.
+const MOST_COPIED: usize = 512;
+
 // A word that is not there is 0, and a list ends where the words end. Copies of words and what a call
 // is lent are made in `alloc`.
 #[derive(Clone, Copy)]
@@ -43,18 +46,24 @@ impl<'a> Words<'a> {
         list
     }
 
+    // A list of n words modulo 2^32, of which the program copies 512 at most; zeros where words are missing.
     pub(crate) fn narrowed(&mut self, n: usize) -> Result<Vec<u32>, AllocError> {
-        let list = self.list(n);
-        list.iter().map(|&word| narrow(word)).collect(self.alloc)
+        let mut copy = self.buffer(n, 0u32)?;
+        for (place, &word) in copy.iter_mut().zip(self.list(n)) {
+            *place = narrow(word);
+        }
+        Ok(copy)
     }
 
     pub(crate) fn rest(&self) -> &'a [u64] {
         self.rest
     }
 
+    // Of these and of the bytes below the program copies 512 at most.
     pub(crate) fn rest_signed(&self) -> Result<Vec<i64>, AllocError> {
         self.rest
             .iter()
+            .take(MOST_COPIED)
             .map(|&word| word.cast_signed())
             .collect(self.alloc)
     }
@@ -63,6 +72,7 @@ impl<'a> Words<'a> {
     pub(crate) fn rest_bytes(&self) -> Result<Vec<u8>, AllocError> {
         self.rest
             .iter()
+            .take(MOST_COPIED)
             .map(|&word| (word & 0xff) as u8)
             .collect(self.alloc)
     }
@@ -75,7 +85,7 @@ impl<'a> Words<'a> {
 
     // A lent buffer of n words, of which the program has 512 at most.
     pub(crate) fn buffer<T: Copy>(&self, n: usize, held: T) -> Result<Vec<T>, AllocError> {
-        vec![in self.alloc; held; n.min(512)]
+        vec![in self.alloc; held; n.min(MOST_COPIED)]
     }
 }
 

@@ -2,3 +2,4 @@
 pub mod Product
 pub mod Factors
 pub mod Counting
+pub mod Copying

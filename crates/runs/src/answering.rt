@@ -30,7 +30,7 @@ fn top_node(giants: usize, nodes: &[u64], out: &mut [u64])
         return;
     }
     let slots = out.len();
-    out.copy_from_slice(&nodes[..slots]);
+    ring::copy_into(&nodes[..slots], out);
 }
 
 pub(crate) fn give_answer(powers: Option<Powers>, giants: usize, nodes: &[u64], out: &mut [u64])

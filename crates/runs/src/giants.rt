@@ -20,7 +20,7 @@ pub(crate) fn turn_giants(
     ensures { GiantsTurned giants.now start (length log.old) slots nodes.old nodes.new log.new }
 {
     let turned = &giants[start..start + log.len()];
-    log.copy_from_slice(turned);
+    ring::copy_into(turned, log);
     for (p, &g) in turned.iter().enumerate() {
         rotate_at(nodes, slots, start + p, g as usize);
     }

@@ -91,7 +91,7 @@ impl Sums<'_, '_, '_> {
         ensures { NodesMadeOf self.now nodes.old nodes.new }
     {
         let slots = self.input.len();
-        let tile = tile_of(self.map.total);
+        let tile = tile_of(self.map.values.len());
         for slot in (0..slots).step_by(tile) {
             self.make_tile(slot, tile.min(slots - slot), nodes);
         }

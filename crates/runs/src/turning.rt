@@ -1,9 +1,20 @@
 // Vectors of one buffer, `slots` words each: one rotated in place, and one added rotated to another.
-ghost use Rattle.std.specs.Prelude.{◌≡◌, length};
+ghost use Rattle.std.specs.Prelude.{◌≡◌, ◌≤◌, ◌++◌, length, take, drop};
 ghost use Rattle.ring.specs.Slots.{modulus};
 ghost use Rattle.ring.specs.Vectors.{tabulate};
 ghost use Rattle.runs.specs.Machines.{vector_at, put_vector, turned, summed};
 ghost use Rattle.runs.specs.Steps.Keyed.{vector_added, TurnAsked, AddTurn};
+
+// By three reversals: the library's `rotate_left` is calls of C's `memmove`, which a program that links the archive would have
+// to have.
+fn rotate_in_place(vector: &mut [u64], k: usize)
+    requires { k ≤ length vector.old }
+    ensures { vector.new ≡ drop k vector.old ++ take k vector.old }
+{
+    vector[..k].reverse();
+    vector[k..].reverse();
+    vector.reverse();
+}
 
 // The vector at a place, rotated by k.
 pub(crate) fn rotate_at(buffer: &mut [u64], slots: usize, place: usize, k: usize)
@@ -12,7 +23,7 @@ pub(crate) fn rotate_at(buffer: &mut [u64], slots: usize, place: usize, k: usize
 {
     let start = place * slots;
     let end = start + slots;
-    buffer[start..end].rotate_left(k);
+    rotate_in_place(&mut buffer[start..end], k);
 }
 
 pub(crate) fn add_vector(vector: &[u64], out: &mut [u64])

@@ -165,7 +165,7 @@ fn get_into(
     if out.len() < n {
         return Err(Refusal::Room);
     }
-    out[..n].copy_from_slice(stretch);
+    ring::copy_into(stretch, &mut out[..n]);
     Ok(n)
 }
 

@@ -36,7 +36,7 @@ loop-at-init c = record { so_far = filling_none _ _; turn = λ l. rw zero-add (s
 pub loop-at-preserved : goal.loop-at-preserved
 loop-at-preserved c =
     let m = c.min-m.result in
-    more c.loop-at.invariant (c.loop-at.at + m - c.loop-at.at) c.copy_from_slice.new.self c.min-m.ensures c.loop-at-test.true (add-sub_cancel_left c.loop-at.at m) refl (add-sub_cancel_left c.loop-at.run m) c.copy_from_slice.ensures.after
+    more c.loop-at.invariant (c.loop-at.at + m - c.loop-at.at) c.copy_into.new.out c.min-m.ensures c.loop-at-test.true (add-sub_cancel_left c.loop-at.at m) refl (add-sub_cancel_left c.loop-at.run m) c.copy_into.ensures
 
 pub returns : goal.returns
 returns c = filling_done c.loop-at.invariant.so_far c.loop-at-test.false

@@ -35,6 +35,18 @@ module _ {period p count : ℕ} {values : List ℕ} (n : Narrowing period p coun
   pub narrow_fits : count * p ≤ length values
   narrow_fits = omega (arith, mul-le-mul_left count n.narrow, n.inside)
 
+  module _ (x : ℕ) where
+    row_of : x < count * p → x / p < count
+    row_of l = (div-lt_iff_lt-mul n.some).1 l
+
+    pub moved_inside : x < count * p → moved_from period p x < length values
+    moved_inside l =
+        omega (arith, suc-mul (x / p) period, mul-le-mul_right period (row_of l), mod-lt x n.some, n.narrow, n.inside)
+
+    -- so it is not written yet
+    pub moved_behind : x ≤ moved_from period p x
+    moved_behind = omega (arith, mod-add-div' x p, mul-le-mul_left (x / p) n.narrow)
+
   module _ {i : ℕ} (l : i < count) where
     -- a row, and where its words go
     pub row_inside : i * period + p ≤ length values

@@ -14,7 +14,7 @@ use Rattle.ring.specs.Vectors.{tabulate, in_front}
 use Rattle.ring.specs.Refusals.{first_refusal, outside, no_period}
 use Rattle.ring.specs.Answers.{judged}
 use Rattle.ring.specs.Laws.Vectors.{length_tabulate, tabulate_cong}
-use Rattle.ring.specs.Laws.Refusals.{first_later}
+use Rattle.ring.specs.Laws.Refusals.{first_later, still_refused}
 use Rattle.ring.specs.Laws.Answers.{answered_accepted, no_refused}
 use Rattle.maps.specs.Entries.{place, entry_of}
 use Rattle.maps.specs.Values.{skewed, skewed_values, on_diagonal, slot_product, first_row, first_col}
@@ -109,6 +109,16 @@ module _ (rows : Bool) (l count : ℕ) (b old : List ℕ) where
     -- what the writing asks
     pub square_divides : 2 ^ side.log_d * 2 ^ side.log_d ∣ length b
     square_divides = rw (t.log_is, t.matrices.len_is) (dvd-mul_left (2 ^ l * 2 ^ l) count)
+
+-- a call that is refused before the room leaves every word as it was
+pub values_first : (rows : Bool) {l count : ℕ} (b old : List ℕ) {x : Refusal} → first_refusal (values_refusals l count (length b)) ≡ Some x → ValuesWritten rows l count b old old (Err x)
+values_first rows {l} {count} b old h =
+    let q = still_refused (values_refusals l count (length b)) ((nat_lt (length old) (length (skewed_values rows (2 ^ l) count b)), Room) ∷ []) h in
+    record { answer = rw q refl; out = rw q refl }
+
+-- what the writing asks
+pub values_asked : {l count : ℕ} (b old : List ℕ) {side : Side} → ValuesTaken l count (length b) side → length b ≤ length old → (l ≤ 8) × ((2 ^ l * 2 ^ l ∣ length b) × ((length b ≤ 65536) × (length b ≤ length old)))
+values_asked {l} {count} b old v k = let m = v.matrices in (m.log_low, (rw m.len_is (dvd-mul_left (2 ^ l * 2 ^ l) count), (m.small, k)))
 
 -- ---- projections
 

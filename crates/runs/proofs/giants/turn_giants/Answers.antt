@@ -13,4 +13,4 @@ pub loop-p-preserved : goal.loop-p-preserved
 loop-p-preserved c = turns_more c.requires c.loop-p.invariant (omega (arith, turns_length c.requires)) c.rotate_at.ensures
 
 pub returns : goal.returns
-returns c = turns_done c.requires c.loop-p.invariant (omega (arith, c.loop-p-test.false, turns_length c.requires)) c.copy_from_slice.ensures.after
+returns c = turns_done c.requires c.loop-p.invariant (omega (arith, c.loop-p-test.false, turns_length c.requires)) c.copy_into.ensures

@@ -27,4 +27,4 @@ returns c =
     let same = c.in_ok-accept.ensures in
     let map = c.in_ok-accept.field-0 in
     let e = rw (to_z-of_z w64 c.args.index c.ranges.index, same.slots_is, same.count_is, same.pairs_is, same.values_is) at c.get-stretch.ensures in
-    rw c.copy_from_slice.ensures.after (done _ _ _ _ c.args.index c.args.out.now (same_accepted same map.in_range map.formed) c.get-stretch.result.now e c.if-out-n.false)
+    rw c.copy_into.ensures (done _ _ _ _ c.args.index c.args.out.now (same_accepted same map.in_range map.formed) c.get-stretch.result.now e c.if-out-n.false)
